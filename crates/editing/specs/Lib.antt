@@ -1,0 +1,3 @@
+pub mod Edits
+pub mod Tables
+pub mod Theorems
