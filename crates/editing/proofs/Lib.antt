@@ -1,3 +1,4 @@
 pub mod Sets
 pub mod Containing
 pub mod Tables
+pub mod Outside

@@ -5,13 +5,14 @@ use mathlib.Core.List.{List, [], _∷_, map, List·Memᴰ·head, List·Memᴰ·t
 use mathlib.Core.Logic.{inl, inr}
 use Prim.Native.Nat.{ℕ, zero, suc, _+_, _*_, _≤_, _<_}
 use native.Mathlib.Decide.{ℕ-discrete}
+use native.Mathlib.Nat.{zero-mul}
 use native.Mathlib.Omega.{arith}
 use lib.Dec.{ltb}
 use lib.ListN.{length, getD}
 use Rattle.std.proofs.shelf.Tests.{cond-true, lt-ltb}
 use Rattle.sets.specs.Sets.{Values, nothing}
 use Rattle.editing.specs.Edits.{Edit, _among_}
-use Rattle.editing.specs.Tables.{tests, at, row, rows}
+use Rattle.editing.specs.Tables.{tests, at, row, rows, domains}
 
 -- the test at a place is that of the set which was read there
 pub test-at : {K : Type 0} (has : K → Values) (sets : List K) (q : ℕ) (s : K) → q < length sets → s ≡ getD sets q s → at (tests has sets) q ≡ has s
@@ -28,6 +29,14 @@ pub read-row :
     {K : Type 0} (has : K → Values) (sets : List K) (n j i : ℕ) (s : K) → i < n → j * n + i < length sets
     → s ≡ getD sets (j * n + i) s → row n (tests has sets) j i ≡ has s
 read-row has sets n j i s h k e = row-at n (tests has sets) j i h ∙ test-at has sets (j * n + i) s k e
+
+-- and a domain the one in the first row
+pub read-domain :
+    {K : Type 0} (has : K → Values) (sets : List K) (n i : ℕ) (s : K) → i < n → i < length sets → s ≡ getD sets i s
+    → domains n (tests has sets) i ≡ has s
+read-domain has sets n i s h k e =
+    let z : i ≡ 0 * n + i = omega (arith, zero-mul n) in
+    read-row has sets n 0 i s h (omega arith) (e ∙ ap (λ (q : ℕ). getD sets q s) z)
 
 module _ (edit : ℕ → Edit) where
   -- each row that is read stands in the list

@@ -8,7 +8,6 @@ use lib.Dec.{ltb}
 use Rattle.sets.specs.Sets.{Values, _∈_, Within}
 
 infix 6 _among_
-
 -- A set of values for each field: the domains of the fields, or an edit. An edit describes records that are in error.
 abbrev pub Edit : Type 0
 Edit = ℕ → Values

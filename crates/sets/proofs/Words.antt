@@ -3,17 +3,17 @@ use mathlib.Core.Path.{_≡_, refl, sym, ap, _∙_, fun-ext}
 use mathlib.Core.Bool.{Bool, true, false, _&&_, _||_}
 use mathlib.Core.Logic.{_⊎_, inl, inr}
 use Prim.Native.Nat.{ℕ, zero, suc, _+_, _-_, _*_, _/_, _%_, _^_, _<_, _≤_, min, max}
-use native.Mathlib.Nat.{pow-suc, div-one, div-eq-of-lt}
+use native.Mathlib.Nat.{pow-suc, div-one, div-eq-of-lt, one-mul, mul-mod-left}
 use native.Mathlib.Numerals.{one-add}
 use native.Mathlib.Omega.{arith}
 use lib.Bits.{bitAnd, bitOr, and-shr, or-shr, and-step, or-step, and-lt}
 use lib.Dec.{leb, ltb, eqb}
-use lib.Pow.{pow-pos, pow-mono, ones-split, high, shr-shr, ones-lt}
+use lib.Pow.{pow-add, shl-shr, pow-pos, pow-mono, ones-split, high, shr-shr, ones-lt}
 use Rattle.std.specs.Orderings.{Decides}
 use Rattle.std.proofs.shelf.Bits.{pow-below, one-shl}
-use Rattle.std.proofs.shelf.Tests.{and-parts, and-from, and-left, and-right, both-ways, cases-bool, cases-lt, eqb-true, eq-eqb, ne-eqb, ltb-true, lt-ltb, le-ltb, le-leb, lt-leb}
+use Rattle.std.proofs.shelf.Tests.{and-parts, and-from, and-left, and-right, both-ways, cases-bool, cases-lt, cases-eq, cases-order, eqb-true, eq-eqb, ne-eqb, ltb-true, lt-ltb, le-ltb, le-leb, lt-leb}
 use Rattle.std.proofs.shelf.Ways.{tells}
-use Rattle.sets.specs.Sets.{Values, between, met, joined, nothing, Within}
+use Rattle.sets.specs.Sets.{Values, between, single, met, joined, nothing, Within}
 use Rattle.sets.specs.Word.{digit, bit}
 
 pub first-digit : (n : ℕ) → digit n 0 ≡ n % 2
@@ -162,3 +162,30 @@ word-run l h p q =
     ∙ word-met _ _ ∙ ap (λ (x : ℕ). met (bit x) (bit (18446744073709551615 - (2 ^ l - 1)))) (ones-moved h q)
     ∙ fun-ext (λ v. run-at l h p q v (cases-lt v l) (cases-lt h v))
 
+-- ---- the word of one value
+
+pow-over : (k j : ℕ) → 2 ^ (k + j) / 2 ^ j ≡ 2 ^ k
+pow-over k j = rw pow-add (shl-shr (2 ^ k) j)
+
+digit-same : (i : ℕ) → digit (2 ^ i) i ≡ 1
+digit-same i = let e : 2 ^ i / 2 ^ i ≡ 1 = simp one-mul at (shl-shr 1 i) in omega arith
+
+digit-lower : (k j : ℕ) → digit (2 ^ (suc k + j)) j ≡ 0
+digit-lower k j = rw (pow-over, pow-suc) (mul-mod-left (2 ^ k) 2)
+
+pub digit-other : (i v : ℕ) → (v ≡ i → ⊥) → digit (2 ^ i) v ≡ 0
+digit-other i v n =
+    elim (cases-order i v) [
+      | inl e ↦ absurd (n (sym e))
+      | inr (inl l) ↦ digit-below (2 ^ i) v (pow-below i v l)
+      | inr (inr l) ↦
+          let e : suc (i - suc v) + v ≡ i = omega arith in
+          ap (λ (x : ℕ). digit (2 ^ x) v) (sym e) ∙ digit-lower (i - suc v) v
+    ]
+
+pub word-single : (i : ℕ) → i < 64 → bit (2 ^ i) ≡ single i
+word-single i h = fun-ext (λ v. at v (cases-eq v i))
+  where
+    at : (v : ℕ) → (v ≡ i) ⊎ (v ≡ i → ⊥) → bit (2 ^ i) v ≡ single i v
+    at v (inl e) = is-member (2 ^ i) v (omega arith) (ap (digit (2 ^ i)) e ∙ digit-same i) ∙ sym (eq-eqb v i e)
+    at v (inr n) = no-member (2 ^ i) v (digit-other i v n) ∙ sym (ne-eqb v i n)

@@ -2,10 +2,9 @@
 use mathlib.Core.Path.{_≡_}
 use mathlib.Core.Bool.{Bool, true, false, _&&_, _||_}
 use Prim.Native.Nat.{ℕ}
-use lib.Dec.{leb}
+use lib.Dec.{leb, eqb}
 
 infix 6 _∈_
-
 -- a set of values: which numbers are members
 abbrev pub Values : Type 0
 Values = ℕ → Bool
@@ -20,6 +19,10 @@ nothing v = false
 -- the run from low to high, both among its members
 abbrev pub between : ℕ → ℕ → Values
 between low high v = leb low v && leb v high
+
+-- the set of one value
+abbrev pub single : ℕ → Values
+single w v = eqb v w
 
 -- the common members
 abbrev pub met : Values → Values → Values

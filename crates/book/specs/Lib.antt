@@ -1,0 +1,4 @@
+pub mod Refusals
+pub mod Measure
+pub mod Answers
+pub mod Books
