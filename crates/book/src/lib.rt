@@ -9,6 +9,7 @@ ghost use Rattle.book.specs.Measure.{most-edits, most-fields, Sized, Weighed};
 ghost use Rattle.std.specs.Orderings.{Decides};
 use refusal::Refusal;
 
+pub mod message;
 pub mod questions;
 pub mod refusal;
 
@@ -74,3 +75,6 @@ impl<K> Book<'_, K> {
         }
     }
 }
+
+#[cfg(test)]
+mod tests;
