@@ -3,7 +3,10 @@ use mathlib.Core.Path.{_≡_, refl, sym, ap, _∙_}
 use Prim.Native.Nat.{ℕ, zero, suc, _+_, _-_, _≤_, _<_}
 use native.Mathlib.Omega.{arith}
 use lib.ListN.{length, getD}
+use mathlib.Core.Bool.{Bool, true, _&&_}
 use mathlib.Core.List.{List, [], _∷_}
+use lib.Dec.{eqb, leb}
+use Rattle.std.proofs.shelf.Tests.{and-parts, eqb-true, leb-true}
 use Rattle.sets.specs.declared.SetRefusal.the-variants as sets
 use Rattle.book.specs.declared.refusal.Refusal.{Refusal}
 use Rattle.book.specs.declared.refusal.Refusal.the-variants.{BadText, BadLine, MisplacedLine, BadWeight, WrongName, NotARun, PartsNotHeld, OutsideDomain, BookTooLarge, BadMeasure, Contradiction, ListFull, NotHeld, BudgetSpent, BadFieldCount, SheetWaiting, DeckFull, UnsoundDonor, BenchTaken, WrongValueCount, TooManyEntries, OtherSheet, NoFieldToChange, NoValueLeft, TooFewPlaces, BadSheetLine, NoRoomForLine}
@@ -19,90 +22,60 @@ all =
 abbrev numbered : ℕ → Refusal
 numbered k = getD (BadText ∷ all) k BadText
 
-back : (r : Refusal) → numbered (numberOf r) ≡ r
-back BadText = refl
-back BadLine = refl
-back MisplacedLine = refl
-back BadWeight = refl
-back WrongName = refl
-back NotARun = refl
-back PartsNotHeld = refl
-back OutsideDomain = refl
-back BookTooLarge = refl
-back BadMeasure = refl
-back Contradiction = refl
-back ListFull = refl
-back NotHeld = refl
-back BudgetSpent = refl
-back BadFieldCount = refl
-back SheetWaiting = refl
-back DeckFull = refl
-back UnsoundDonor = refl
-back BenchTaken = refl
-back WrongValueCount = refl
-back TooManyEntries = refl
-back OtherSheet = refl
-back NoFieldToChange = refl
-back NoValueLeft = refl
-back TooFewPlaces = refl
-back BadSheetLine = refl
-back NoRoomForLine = refl
-
--- every number of a refusal lies from 1 to 27
-in-range : (r : Refusal) → (1 ≤ numberOf r) × (numberOf r ≤ 27)
-in-range BadText = (omega arith, omega arith)
-in-range BadLine = (omega arith, omega arith)
-in-range MisplacedLine = (omega arith, omega arith)
-in-range BadWeight = (omega arith, omega arith)
-in-range WrongName = (omega arith, omega arith)
-in-range NotARun = (omega arith, omega arith)
-in-range PartsNotHeld = (omega arith, omega arith)
-in-range OutsideDomain = (omega arith, omega arith)
-in-range BookTooLarge = (omega arith, omega arith)
-in-range BadMeasure = (omega arith, omega arith)
-in-range Contradiction = (omega arith, omega arith)
-in-range ListFull = (omega arith, omega arith)
-in-range NotHeld = (omega arith, omega arith)
-in-range BudgetSpent = (omega arith, omega arith)
-in-range BadFieldCount = (omega arith, omega arith)
-in-range SheetWaiting = (omega arith, omega arith)
-in-range DeckFull = (omega arith, omega arith)
-in-range UnsoundDonor = (omega arith, omega arith)
-in-range BenchTaken = (omega arith, omega arith)
-in-range WrongValueCount = (omega arith, omega arith)
-in-range TooManyEntries = (omega arith, omega arith)
-in-range OtherSheet = (omega arith, omega arith)
-in-range NoFieldToChange = (omega arith, omega arith)
-in-range NoValueLeft = (omega arith, omega arith)
-in-range TooFewPlaces = (omega arith, omega arith)
-in-range BadSheetLine = (omega arith, omega arith)
-in-range NoRoomForLine = (omega arith, omega arith)
+-- each refusal stands in the table at its number, which is in the range
+placed : (r : Refusal) → (numbered (numberOf r) ≡ r) × ((leb 1 (numberOf r) && leb (numberOf r) 27) ≡ true)
+placed BadText = (refl, refl)
+placed BadLine = (refl, refl)
+placed MisplacedLine = (refl, refl)
+placed BadWeight = (refl, refl)
+placed WrongName = (refl, refl)
+placed NotARun = (refl, refl)
+placed PartsNotHeld = (refl, refl)
+placed OutsideDomain = (refl, refl)
+placed BookTooLarge = (refl, refl)
+placed BadMeasure = (refl, refl)
+placed Contradiction = (refl, refl)
+placed ListFull = (refl, refl)
+placed NotHeld = (refl, refl)
+placed BudgetSpent = (refl, refl)
+placed BadFieldCount = (refl, refl)
+placed SheetWaiting = (refl, refl)
+placed DeckFull = (refl, refl)
+placed UnsoundDonor = (refl, refl)
+placed BenchTaken = (refl, refl)
+placed WrongValueCount = (refl, refl)
+placed TooManyEntries = (refl, refl)
+placed OtherSheet = (refl, refl)
+placed NoFieldToChange = (refl, refl)
+placed NoValueLeft = (refl, refl)
+placed TooFewPlaces = (refl, refl)
+placed BadSheetLine = (refl, refl)
+placed NoRoomForLine = (refl, refl)
 
 apart : (r s : Refusal) → numberOf r ≡ numberOf s → r ≡ s
-apart r s e = sym (back r) ∙ ap numbered e ∙ back s
+apart r s e = sym (placed r .0) ∙ ap numbered e ∙ placed s .0
 
--- the places of a list of numbers all agree with a count from the first
-abbrev Counts : ℕ → List Refusal → Type 0
-Counts k [] = Unit {0}
-Counts k (r ∷ rs) = (numberOf r ≡ k) × Counts (suc k) rs
+-- the numbers of the refusals in the list rise by one from k on
+abbrev counts : ℕ → List Refusal → Bool
+counts k [] = true
+counts k (r ∷ rs) = eqb (numberOf r) k && counts (suc k) rs
 
-counted : (k : ℕ) (rs : List Refusal) → Counts k rs → (i : ℕ) → i < length rs → (r : Refusal) × (numberOf r ≡ k + i)
+counted : (k : ℕ) (rs : List Refusal) → counts k rs ≡ true → (i : ℕ) → i < length rs → (r : Refusal) × (numberOf r ≡ k + i)
 counted k [] h i l = absurd (omega arith)
-counted k (r ∷ rs) h zero l = (r, h .0 ∙ omega arith)
-counted k (r ∷ rs) h (suc i) l = let t = counted (suc k) rs (h .1) i (omega arith) in (t .0, t .1 ∙ omega arith)
-
-all-counted : Counts 1 all
-all-counted = (refl, (refl, (refl, (refl, (refl, (refl, (refl, (refl, (refl, (refl, (refl, (refl, (refl, (refl, (refl, (refl, (refl, (refl, (refl, (refl, (refl, (refl, (refl, (refl, (refl, (refl, (refl, tt)))))))))))))))))))))))))))
+counted k (r ∷ rs) h zero l = (r, eqb-true (numberOf r) k (and-parts _ _ h .0) ∙ omega arith)
+counted k (r ∷ rs) h (suc i) l =
+    let t = counted (suc k) rs (and-parts (eqb (numberOf r) k) _ h .1) i (omega arith) in
+    (t .0, t .1 ∙ omega arith)
 
 pub each-number-once : Each-number-once
 each-number-once =
     record {
-      least = λ r. in-range r .0;
-      most = λ r. in-range r .1;
+      least = λ r. leb-true 1 (numberOf r) (and-parts _ _ (placed r .1) .0);
+      most = λ r. leb-true (numberOf r) 27 (and-parts (leb 1 (numberOf r)) _ (placed r .1) .1);
       apart = apart;
       borne = λ k low high.
           let e : 1 + (k - 1) ≡ k = omega arith in
-          let t = counted 1 all all-counted (k - 1) (omega arith) in
+          let t = counted 1 all refl (k - 1) (omega arith) in
           (t .0, t .1 ∙ e);
       kept = λ e. elim e as (λ x. numberOf (fromSets x) ≡ sets-refusals.numberOf x) [ sets.NotARun ↦ refl | sets.NotHeld ↦ refl ];
     }

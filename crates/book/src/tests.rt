@@ -4,12 +4,11 @@ use super::*;
 use crate::refusal::RefusalDebug;
 use crate::refusal::RefusalFromSets;
 use crate::refusal::RefusalPartialEq;
+use sets::EMPTY_ANSWER;
 use sets::SetRefusal;
 use sets::codes::CodeSet;
 use sets::codes::Codes;
 use std::test::*;
-
-const NO_ANSWER: u32 = 4_294_967_295;
 
 // Whether the measure of a book of these sizes is refused.
 fn is_refused<'x>(n: usize, m: usize, sets: &'x [Codes], weights: &'x [u8]) -> bool {
@@ -73,7 +72,7 @@ fn an_empty_answer_is_outside_every_domain() -> Result<(), Fail> {
     check_eq(book.outside_domains(&values), Ok(0))?;
     check_eq(book.is_sound(&values), Ok(true))?;
     values[0] = 64;
-    values[23] = NO_ANSWER;
+    values[23] = EMPTY_ANSWER;
     check_eq(
         book.outside_domains(&values),
         Ok(0b1000_0000_0000_0000_0000_0001),
@@ -107,7 +106,7 @@ fn an_edit_is_failed_where_each_entered_field_has_a_value_of_its_set() -> Result
     let mut second = none;
     second[1] = true;
     check_eq(book.failed_edits(&[0, 1]), Ok(first))?;
-    check_eq(book.failed_edits(&[0, NO_ANSWER]), Ok(first))?;
+    check_eq(book.failed_edits(&[0, EMPTY_ANSWER]), Ok(first))?;
     check_eq(book.failed_edits(&[2, 2]), Ok(second))?;
     check_eq(book.failed_edits(&[2, 1]), Ok(none))?;
     check_eq(book.is_sound(&[2, 1]), Ok(true))?;

@@ -10,15 +10,13 @@ use book::message::RefusalError;
 use book::refusal::Refusal;
 use book::refusal::RefusalDebug;
 use book::refusal::RefusalFromSets;
+use sets::EMPTY_ANSWER;
 use sets::ValueSet;
 use sets::codes::CodeSet;
 use sets::codes::Codes;
 use std::alloc::AllocError;
 use std::alloc::Global;
 use std::error::AnyError;
-
-// What an empty answer reads as.
-const EMPTY: u32 = 4_294_967_295;
 
 const NAMES: [&str; 3] = ["years", "role", "wage"];
 
@@ -28,7 +26,7 @@ const SHEETS: [[u32; 3]; 6] = [
     [1, 1, 2],
     [0, 2, 1],
     [0, 1, 1],
-    [1, EMPTY, 1],
+    [1, EMPTY_ANSWER, 1],
     [0, 1, 7],
     [0, 0, 0],
 ];
@@ -70,7 +68,7 @@ fn spelled(heap: Global, values: &[u32]) -> Result<String, AllocError> {
         if i > 0 {
             text.push_str(" ")?;
         }
-        if *value == EMPTY {
+        if *value == EMPTY_ANSWER {
             text.push_str("-")?;
         } else {
             text.push_str(format!(heap, "{value}")?.as_str())?;

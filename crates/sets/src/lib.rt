@@ -1,7 +1,7 @@
 //! Sets of values: the trait that generic code sees, and the kinds that are delivered.
 
 ghost use denote.Ref.{now};
-ghost use mathlib.Core.Bool.{Bool, true};
+ghost use mathlib.Core.Bool.{Bool, false, true};
 ghost use mathlib.Core.Path.{_≡_};
 ghost use Prim.Native.Nat.{ℕ, _<_, _≤_};
 ghost use Rattle.sets.specs.Placing.{Placed, RunPlaced};
@@ -90,3 +90,11 @@ pub trait ValueSet: Copy {
     fn join(&self, other: &Self, place: &mut Self) -> Result<(), SetRefusal>
         ensures placed { λ r. ⌜ Placed has holds (joined (has (now (self .entry))) (has (now (other .entry)))) (now (place .entry)) (now (place .exit)) r ⌝ };
 }
+
+/// What an empty answer reads as.
+pub const EMPTY_ANSWER: u32 = 4_294_967_295;
+
+/// An empty answer is a member of no set, of whatever kind.
+pub fn empty_answer_is_no_member<K: ValueSet>(set: &K)
+    ensures theorem { λ _. ⌜ K·ValueSet .has (now (set .entry)) 4294967295 ≡ false ⌝ }
+{}
