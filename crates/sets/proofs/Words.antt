@@ -11,7 +11,7 @@ use lib.Dec.{leb, ltb, eqb}
 use lib.Pow.{pow-add, shl-shr, pow-pos, pow-mono, ones-split, high, shr-shr, ones-lt}
 use Rattle.std.specs.Orderings.{Decides}
 use Rattle.std.proofs.shelf.Bits.{pow-below, one-shl}
-use Rattle.std.proofs.shelf.Tests.{and-parts, and-from, and-left, and-right, both-ways, cases-bool, cases-lt, cases-eq, cases-order, eqb-true, eq-eqb, ne-eqb, ltb-true, lt-ltb, le-ltb, le-leb, lt-leb}
+use Rattle.std.proofs.shelf.Tests.{and-parts, and-from, and-left, and-right, both-ways, cases-bool, cases-lt, cases-eq, cases-order, eqb-true, eq-eqb, ne-eqb, ltb-true, lt-ltb, le-leb, lt-leb}
 use Rattle.std.proofs.shelf.Ways.{tells}
 use Rattle.sets.specs.Sets.{Values, between, single, met, joined, nothing, Within}
 use Rattle.sets.specs.Word.{digit, bit}
@@ -21,10 +21,6 @@ first-digit n = ap (λ (x : ℕ). x % 2) (div-one n)
 
 pub next-digit : (n v : ℕ) → digit n (suc v) ≡ digit (n / 2) v
 next-digit n v = ap (λ (x : ℕ). x % 2) (ap (λ (k : ℕ). n / 2 ^ k) (sym (one-add v)) ∙ sym (shr-shr n 1 v))
-
--- the digits of a word moved down
-pub moved-digit : (n k v : ℕ) → digit (n / 2 ^ k) v ≡ digit n (k + v)
-moved-digit n k v = ap (λ (x : ℕ). x % 2) (shr-shr n k v)
 
 -- words with the same digits are the same
 pub same-digits : (k a b : ℕ) → a < 2 ^ k → b < 2 ^ k → ((v : ℕ) → v < k → digit a v ≡ digit b v) → a ≡ b
@@ -69,9 +65,6 @@ is-member n v l h = and-from (ltb v 64) (eqb (digit n v) 1) (lt-ltb v 64 l) (eq-
 
 pub no-member : (n v : ℕ) → digit n v ≡ 0 → bit n v ≡ false
 no-member n v h = and-right (ltb v 64) (eqb (digit n v) 1) (ne-eqb (digit n v) 1 (λ e. omega arith))
-
-pub past-member : (n v : ℕ) → 64 ≤ v → bit n v ≡ false
-past-member n v h = and-left (ltb v 64) (eqb (digit n v) 1) (le-ltb v 64 h)
 
 digit-small : (n v : ℕ) → digit n v < 2
 digit-small n v = omega arith
