@@ -1,4 +1,8 @@
-//! What a refusal says to a person. Its words are not proved; the number in front of them is.
+//! What a refusal says to a person: its number, and what is wrong.
+
+ghost use mathlib.Core.Path.{_≡_};
+ghost use Rattle.book.specs.Messages.{messageOf, reasonOf};
+ghost use Rattle.std.specs.declared.option.Option.the-variants.{Some};
 
 use crate::refusal::Refusal;
 use crate::refusal::RefusalDebug;
@@ -7,7 +11,9 @@ use std::fmt;
 
 impl Refusal {
     // What is wrong, in a few words.
-    fn reason(self) -> &'static str {
+    fn reason(self) -> &'static str
+        ensures value { λ r. ⌜ now r ≡ reasonOf self ⌝ }
+    {
         match self {
             Refusal::BadText => "the text is empty, too long, or does not end in a line end",
             Refusal::BadLine => "the line has not the form of a field line or an edit line",
@@ -43,6 +49,8 @@ impl Refusal {
 }
 
 pub impl fmt::Display for Refusal as RefusalDisplay {
+    ghost shown = { λ x. Some (messageOf x) };
+
     fn fmt<W: fmt::Write>(&self, f: &mut fmt::Formatter<W>) -> fmt::Result {
         let number = self.number();
         let reason = self.reason();
