@@ -20,15 +20,11 @@ use Rattle.editing.specs.Tables.{reading}
 use Rattle.editing.proofs.Outside.{inside-if-none, none-if-inside, outside-in, outside-out}
 use Rattle.editing.proofs.Tables.{among-row, read-domain, read-row, row-among}
 use Rattle.book.specs.declared.Book.{Book}
-use Rattle.book.specs.Books.{Is-book, domains-of, edit-of, Fails-edit, Inside-domains, outside-of, Passes-all}
+use Rattle.book.specs.Books.{Is-book, domains-of, edit-of, Fails-edit, Inside-domains, outside-of, Passes-all, Speaks-of}
 
 -- a place within a row is a place within the table
 pub place-within : (n m j i sets : ℕ) → i < n → j ≤ m → (m + 1) * n ≤ sets → j * n + i < sets
 place-within n m j i sets h le fits = omega (arith, mul-add-lt j n i (m + 1) (omega arith) h, mul-comm n (m + 1))
-
--- an edit's set and a domain leave open that the value v fails the edit
-abbrev Speaks : Values → Values → ℕ → Type 0
-Speaks set domain v = (set ≡ domain → ⊥) → v ∈ set
 
 module _ {K : Type 0} (has : K → Values) (b : Book K) (ready : Is-book b) (j i : ℕ) (le : j ≤ b .m) (h : i < b .n) where
   pub in-table : j * b .n + i < length (now (b .sets))
@@ -36,13 +32,13 @@ module _ {K : Type 0} (has : K → Values) (b : Book K) (ready : Is-book b) (j i
 
   -- what was decided of the sets that were read holds of the edit with the number j
   pub speaks : (v : ℕ) (s d : K) → s ≡ getD (now (b .sets)) (j * b .n + i) s → d ≡ getD (now (b .sets)) i d → (r : Bool)
-      → Decides r (Speaks (has s) (has d) v) → Decides r (Enters (domains-of has b) (edit-of has b j) i → v ∈ edit-of has b j i)
+      → Decides r (Speaks-of (has s) (has d) v) → Decides r (Enters (domains-of has b) (edit-of has b j) i → v ∈ edit-of has b j i)
   speaks v s d s-is d-is r decides =
       let k = in-table in
       let there = read-row has (now (b .sets)) (b .n) j i s h k s-is in
       let here = read-domain has (now (b .sets)) (b .n) i d h (omega arith) d-is in
-      subst (λ (A : Values). Decides r (Speaks A (domains-of has b i) v)) (sym there)
-      (subst (λ (B : Values). Decides r (Speaks (has s) B v)) (sym here) decides)
+      subst (λ (A : Values). Decides r (Speaks-of A (domains-of has b i) v)) (sym there)
+      (subst (λ (B : Values). Decides r (Speaks-of (has s) B v)) (sym here) decides)
 
 module _ {K : Type 0} (has : K → Values) (b : Book K) (ready : Is-book b) (values : List ℕ) (i : ℕ) (h : i < b .n) (d : K) (d-is : d ≡ getD (now (b .sets)) i d) where
   abbrev D : Edit

@@ -4,7 +4,7 @@ use mathlib.Core.Path.{_≡_}
 use mathlib.Core.List.{List}
 use Prim.Native.Nat.{ℕ}
 use lib.ListN.{length}
-use Rattle.sets.specs.Sets.{Values}
+use Rattle.sets.specs.Sets.{Values, _∈_}
 use Rattle.editing.specs.Edits.{Edit, _among_, Fails, Inside, Sound, outside}
 use Rattle.editing.specs.Tables.{tests, row, domains, edits, reading}
 use Rattle.book.specs.declared.Book.{Book}
@@ -22,6 +22,10 @@ Whole b values = length values ≡ b .n
 pub record Ready {K : Type 0} (b : Book K) (values : List ℕ) : Type 0 where
   pub book : Is-book b
   pub whole : Whole b values
+
+-- The value is one that an edit with this set speaks of: in the set, where that differs from the domain.
+abbrev pub Speaks-of : Values → Values → ℕ → Type 0
+Speaks-of set domain value = (set ≡ domain → ⊥) → value ∈ set
 
 module _ {K : Type 0} (has : K → Values) where
   -- The book's domains.

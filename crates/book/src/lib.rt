@@ -9,11 +9,12 @@ ghost use Rattle.book.specs.Measure.{most-edits, most-fields, Sized, Weighed};
 ghost use Rattle.std.specs.Orderings.{Decides};
 use refusal::Refusal;
 
+pub mod mask;
 pub mod message;
 pub mod questions;
 pub mod refusal;
 
-/// The most fields of a book: a mask has a bit for each in 32.
+/// The most fields of a book; a mask of 32 bits has one for each.
 pub const MOST_FIELDS: usize = 24;
 
 /// The most edits of a book: an edit's number is one byte, and 0 is no edit's.

@@ -3,7 +3,6 @@
 ghost use mathlib.Core.Path.{_≡_};
 ghost use Rattle.book.specs.Messages.{messageOf, reasonOf};
 ghost use Rattle.std.specs.declared.option.Option.the-variants.{Some};
-
 use crate::refusal::Refusal;
 use crate::refusal::RefusalDebug;
 use std::error::Error;

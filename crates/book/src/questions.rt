@@ -3,13 +3,13 @@
 ghost use mathlib.Core.Path.{_≡_};
 ghost use Prim.Native.Nat.{_<_, _≤_};
 ghost use Rattle.book.specs.Answers.{Asked, Flagged};
-ghost use Rattle.book.specs.Books.{Fails-edit, Inside-domains, Is-book, outside-of, Passes-all, Ready, Sound-under, Whole};
+ghost use Rattle.book.specs.Books.{Fails-edit, Inside-domains, Is-book, outside-of, Passes-all, Ready, Sound-under, Speaks-of, Whole};
 ghost use Rattle.book.specs.Measure.{most-edits};
-ghost use Rattle.sets.specs.Sets.{_∈_, joined, single};
 ghost use Rattle.sets.specs.Word.{bit};
 ghost use Rattle.std.specs.Orderings.{Decides};
 use crate::Book;
 use crate::MOST_EDITS;
+use crate::mask::with_field;
 use crate::refusal::Refusal;
 use sets::ValueSet;
 
@@ -116,15 +116,7 @@ impl<K: ValueSet> Book<'_, K> {
 
 // Whether the value is one that an edit speaks of: in its set, where it enters the field.
 fn is_met<K: ValueSet>(set: &K, domain: &K, value: u32) -> bool
-    ensures decides { λ r. ⌜ Decides r ((K·ValueSet .has (now (set .entry)) ≡ K·ValueSet .has (now (domain .entry)) → ⊥) → value ∈ K·ValueSet .has (now (set .entry))) ⌝ }
+    ensures decides { λ r. ⌜ Decides r (Speaks-of (K·ValueSet .has (now (set .entry))) (K·ValueSet .has (now (domain .entry))) value) ⌝ }
 {
     set.contains(value) || set.equals(domain)
-}
-
-// The mask with the field i besides.
-fn with_field(mask: u32, i: usize) -> u32
-    requires { ⌜ i < 32 ⌝ }
-    ensures value { λ r. ⌜ bit r ≡ joined (bit mask) (single i) ⌝ }
-{
-    mask | (1 << i)
 }

@@ -1,6 +1,7 @@
 //! Books and records at the edges of what is allowed.
 
 use super::*;
+use crate::mask::has_field;
 use crate::refusal::RefusalDebug;
 use crate::refusal::RefusalFromSets;
 use crate::refusal::RefusalPartialEq;
@@ -151,4 +152,13 @@ fn a_set_that_is_not_made_is_refused_under_the_same_number() -> Result<(), Fail>
     check_eq(Refusal::from(SetRefusal::NotHeld).number(), 13)?;
     check_eq(Refusal::BadText.number(), 1)?;
     check_eq(Refusal::NoRoomForLine.number(), 27)
+}
+
+#[test]
+fn a_mask_holds_a_field_by_its_bit() -> Result<(), Fail> {
+    let mask = 0b1000_0000_1000_0000_0000_0000_0000_0001;
+    check(has_field(mask, 0) && has_field(mask, 23) && has_field(mask, 31))?;
+    check(!has_field(mask, 1) && !has_field(mask, 22) && !has_field(mask, 30))?;
+    check(!has_field(mask, 32) && !has_field(mask, 63) && !has_field(mask, 64))?;
+    check(!has_field(mask, 18_446_744_073_709_551_615))
 }

@@ -1,10 +1,12 @@
 //! Checks the sheets of a sample survey: which fields are outside their domains, which edits fail.
 
 ghost use mathlib.Core.Path.{_≡_};
+ghost use Prim.Native.Nat.{_<_, _≤_};
 ghost use Rattle.sets.specs.Sets.{between};
 ghost use Rattle.sets.specs.Word.{bit};
-ghost use Rattle.std.specs.Vec.{made};
+ghost use Rattle.std.specs.Results.{Cases};
 use book::Book;
+use book::mask::has_field;
 use book::message::RefusalDisplay;
 use book::message::RefusalError;
 use book::refusal::Refusal;
@@ -33,7 +35,7 @@ const SHEETS: [[u32; 3]; 6] = [
 
 // The codes from `low` to `high`.
 fn span(low: u32, high: u32) -> Result<Codes, Refusal>
-    ensures made { λ r. ⌜ made r (λ s. bit (s .0) ≡ between low high) ⌝ }
+    ensures cases { λ r. ⌜ Cases r (λ s. bit (s .0) ≡ between low high) (λ e. (e ≡ Refusal.NotARun) × (low ≤ high → high < 64 → ⊥)) ⌝ }
 {
     let mut set = CodeSet::empty();
     CodeSet::run(low, high, &mut set)?;
@@ -83,7 +85,7 @@ fn findings(heap: Global, book: &Book<Codes>, values: &[u32]) -> Result<String, 
     let failed = book.failed_edits(values)?;
     let mut text = String::new(heap);
     for (i, name) in NAMES.iter().enumerate() {
-        if (mask >> (i & 31)) % 2 == 1 {
+        if has_field(mask, i) {
             part(&mut text)?;
             text.push_str(name)?;
             text.push_str(" is outside its domain")?;

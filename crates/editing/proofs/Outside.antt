@@ -14,21 +14,19 @@ module _ (D : Edit) (x : Record) where
   pub outside-none : outside 0 D x ≡ nothing
   outside-none = fun-ext (λ v. grind (arith, tells))
 
-  -- a field with a value of its domain adds nothing
-  pub outside-in : (i : ℕ) → x i ∈ D i → outside (i + 1) D x ≡ outside i D x
-  outside-in i h = fun-ext (λ v. at v (cases-eq v i))
+  -- the next field is added where its value is not in its domain
+  pub outside-more : (i : ℕ) (b : Bool) → D i (x i) ≡ b → (v : ℕ) → outside (i + 1) D x v ≡ (outside i D x v || (eqb v i && not b))
+  outside-more i b h v = at (cases-eq v i)
     where
-      at : (v : ℕ) → (v ≡ i) ⊎ (v ≡ i → ⊥) → outside (i + 1) D x v ≡ outside i D x v
-      at v (inl e) = let d : D v (x v) ≡ true = ap (λ (j : ℕ). D j (x j)) e ∙ h in grind (arith, tells)
-      at v (inr n) = grind (arith, tells)
+      at : (v ≡ i) ⊎ (v ≡ i → ⊥) → outside (i + 1) D x v ≡ (outside i D x v || (eqb v i && not b))
+      at (inl e) = let d : D v (x v) ≡ b = ap (λ (j : ℕ). D j (x j)) e ∙ h in grind (arith, tells)
+      at (inr n) = grind (arith, tells)
 
-  -- any other field is added
+  pub outside-in : (i : ℕ) → x i ∈ D i → outside (i + 1) D x ≡ outside i D x
+  outside-in i h = fun-ext (λ v. outside-more i true h v ∙ grind (arith, tells))
+
   pub outside-out : (i : ℕ) → D i (x i) ≡ false → outside (i + 1) D x ≡ joined (outside i D x) (single i)
-  outside-out i h = fun-ext (λ v. at v (cases-eq v i))
-    where
-      at : (v : ℕ) → (v ≡ i) ⊎ (v ≡ i → ⊥) → outside (i + 1) D x v ≡ joined (outside i D x) (single i) v
-      at v (inl e) = let d : D v (x v) ≡ false = ap (λ (j : ℕ). D j (x j)) e ∙ h in grind (arith, tells)
-      at v (inr n) = grind (arith, tells)
+  outside-out i h = fun-ext (λ v. outside-more i false h v ∙ grind (arith, tells))
 
   -- a record lies within the domains where no field is outside
   pub inside-if-none : (n : ℕ) → outside n D x ≡ nothing → Inside n D x

@@ -15,7 +15,7 @@ pub fn larger_fails_too()
     ensures theorem { λ _. ⌜ Larger-fails-too ⌝ }
 {}
 
-/// A record that is sound under a list fails no edit that one of the list contains.
+/// An edit that another of the list contains adds nothing: the same records are sound.
 pub fn contained_adds_nothing()
     ensures theorem { λ _. ⌜ Contained-adds-nothing ⌝ }
 {}

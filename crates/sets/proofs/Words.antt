@@ -6,7 +6,7 @@ use Prim.Native.Nat.{ℕ, zero, suc, _+_, _-_, _*_, _/_, _%_, _^_, _<_, _≤_, m
 use native.Mathlib.Nat.{pow-suc, div-one, div-eq-of-lt, one-mul, mul-mod-left}
 use native.Mathlib.Numerals.{one-add}
 use native.Mathlib.Omega.{arith}
-use lib.Bits.{bitAnd, bitOr, and-shr, or-shr, and-step, or-step, and-lt}
+use lib.Bits.{bitAnd, bitOr, and-shr, or-shr, and-step, or-step, and-lt, or-lt}
 use lib.Dec.{leb, ltb, eqb}
 use lib.Pow.{pow-add, shl-shr, pow-pos, pow-mono, ones-split, high, shr-shr, ones-lt}
 use Rattle.std.specs.Orderings.{Decides}
@@ -14,7 +14,7 @@ use Rattle.std.proofs.shelf.Bits.{pow-below, one-shl}
 use Rattle.std.proofs.shelf.Tests.{and-parts, and-from, and-left, and-right, both-ways, cases-bool, cases-lt, cases-eq, cases-order, eqb-true, eq-eqb, ne-eqb, ltb-true, lt-ltb, le-leb, lt-leb}
 use Rattle.std.proofs.shelf.Ways.{tells}
 use Rattle.sets.specs.Sets.{Values, between, single, met, joined, nothing, Within}
-use Rattle.sets.specs.Word.{digit, bit}
+use Rattle.sets.specs.Word.{digit, bit, One-word-each}
 
 pub first-digit : (n : ℕ) → digit n 0 ≡ n % 2
 first-digit n = ap (λ (x : ℕ). x % 2) (div-one n)
@@ -182,3 +182,54 @@ word-single i h = fun-ext (λ v. at v (cases-eq v i))
     at : (v : ℕ) → (v ≡ i) ⊎ (v ≡ i → ⊥) → bit (2 ^ i) v ≡ single i v
     at v (inl e) = is-member (2 ^ i) v (omega arith) (ap (digit (2 ^ i)) e ∙ digit-same i) ∙ sym (eq-eqb v i e)
     at v (inr n) = no-member (2 ^ i) v (digit-other i v n) ∙ sym (ne-eqb v i n)
+
+-- ---- the word of any set
+
+-- the value v, if it is to be a member
+mark : Bool → ℕ → ℕ
+mark true v = 2 ^ v
+mark false v = 0
+
+-- the word of the members below k
+word-of : ℕ → Values → ℕ
+word-of zero A = 0
+word-of (suc k) A = bitOr (word-of k A) (mark (A k) k)
+
+mark-lt : (b : Bool) (v : ℕ) → mark b v < 2 ^ suc v
+unfolding mark
+mark-lt true v = pow-below v (suc v) (omega arith)
+mark-lt false v = pow-pos (suc v)
+
+word-lt : (k : ℕ) (A : Values) → word-of k A < 2 ^ k
+unfolding word-of
+word-lt zero A = pow-pos 0
+word-lt (suc k) A =
+    or-lt (suc k) (word-of k A) (mark (A k) k) (omega (arith, word-lt k A, pow-below k (suc k) (omega arith))) (mark-lt (A k) k)
+
+word-mark : (b : Bool) (k v : ℕ) → k < 64 → bit (mark b k) v ≡ (eqb v k && b)
+unfolding mark
+word-mark true k v h = ap (λ (A : Values). A v) (word-single k h) ∙ grind (arith, tells)
+word-mark false k v h = ap (λ (A : Values). A v) word-none ∙ grind (arith, tells)
+
+word-members : (k : ℕ) (A : Values) → k ≤ 64 → (v : ℕ) → bit (word-of k A) v ≡ (ltb v k && A v)
+unfolding word-of
+word-members zero A h v = ap (λ (B : Values). B v) word-none ∙ grind (arith, tells)
+word-members (suc k) A h v =
+    let so-far = word-members k A (omega arith) v in
+    let here = word-mark (A k) k v (omega arith) in
+    ap (λ (B : Values). B v) (word-joined (word-of k A) (mark (A k) k)) ∙ at (cases-eq v k) so-far here
+  where
+    at : (v ≡ k) ⊎ (v ≡ k → ⊥) → bit (word-of k A) v ≡ (ltb v k && A v) → bit (mark (A k) k) v ≡ (eqb v k && A k)
+        → joined (bit (word-of k A)) (bit (mark (A k) k)) v ≡ (ltb v (suc k) && A v)
+    at (inl e) so-far here = let same : A v ≡ A k = ap A e in grind (arith, tells)
+    at (inr n) so-far here = grind (arith, tells)
+
+pub one-word-each : One-word-each
+one-word-each A small = (
+  (word-of 64 A, word-lt 64 A, fun-ext (λ v. word-members 64 A (omega arith) v ∙ at v (cases-bool (A v)))),
+  λ w u p q is also. same-words w u p q (is ∙ sym also),
+)
+  where
+    at : (v : ℕ) → (A v ≡ true) ⊎ (A v ≡ false) → (ltb v 64 && A v) ≡ A v
+    at v (inl t) = let l = small v t in grind (arith, tells)
+    at v (inr f) = grind (arith, tells)

@@ -1,13 +1,13 @@
 //! Codes: any set of the values below 64, in one word.
 
 ghost use mathlib.Core.Bool.{true};
-ghost use Rattle.sets.specs.Word.{bit};
+ghost use Rattle.sets.specs.Word.{bit, One-word-each};
 use crate::SetRefusal;
 use crate::ValueSet;
 use crate::word;
 
-/// A set of codes. The code v is a member where bit v is set, so every word is a set and every set
-/// below 64 has its word. Eight bytes; each call is a few word operations.
+/// A set of codes. The code v is a member where bit v is set, so every word is a set, and every set
+/// below 64 has just one word. Eight bytes; each call is a few word operations.
 #[derive(Clone, Copy)]
 pub struct Codes(pub u64);
 
@@ -56,6 +56,11 @@ pub impl ValueSet for Codes as CodeSet {
         Ok(())
     }
 }
+
+/// Every set of values below 64 has just one word, so codes hold every such set.
+pub fn each_set_has_one_word()
+    ensures theorem { λ _. ⌜ One-word-each ⌝ }
+{}
 
 #[cfg(test)]
 mod tests {

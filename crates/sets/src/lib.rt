@@ -6,7 +6,7 @@ ghost use mathlib.Core.Path.{_≡_};
 ghost use Prim.Native.Nat.{ℕ, _<_, _≤_};
 ghost use Rattle.sets.specs.Placing.{Placed, RunPlaced};
 ghost use Rattle.sets.specs.Refusals.{numberOf};
-ghost use Rattle.sets.specs.Sets.{between, joined, met, nothing, Within};
+ghost use Rattle.sets.specs.Sets.{between, joined, met, nothing, Values, Within};
 ghost use Rattle.std.specs.Orderings.{Decides};
 
 pub mod codes;
@@ -45,7 +45,7 @@ pub trait ValueSet: Copy {
     // every member lies below it
     ghost top: { ℕ };
 
-    // the hold rule: whether some value of the kind has just these members
+    // the hold rule: which sets of values the kind can hold
     ghost holds: { (ℕ → Bool) → Bool };
 
     law top_fits: { top ≤ 4294967295 };
@@ -94,7 +94,16 @@ pub trait ValueSet: Copy {
 /// What an empty answer reads as.
 pub const EMPTY_ANSWER: u32 = 4_294_967_295;
 
-/// An empty answer is a member of no set, of whatever kind.
-pub fn empty_answer_is_no_member<K: ValueSet>(set: &K)
-    ensures theorem { λ _. ⌜ K·ValueSet .has (now (set .entry)) 4294967295 ≡ false ⌝ }
+/// Whether an empty answer is a member: never, of whatever kind the set is.
+pub fn has_empty_answer<K: ValueSet>(set: &K) -> bool
+    ensures value { λ r. ⌜ r ≡ K·ValueSet .has (now (set .entry)) 4294967295 ⌝ }
+    ensures never { λ r. ⌜ r ≡ false ⌝ }
+{
+    set.contains(EMPTY_ANSWER)
+}
+
+/// A set that the kind cannot hold has no value: so meet and join are refused only where there is
+/// nothing that they could have put into the place.
+pub fn unheld_has_no_value<K: ValueSet>(set: &K)
+    ensures theorem { λ _. ⌜ ((A : Values) → K·ValueSet .holds A ≡ false → K·ValueSet .has (now (set .entry)) ≡ A → ⊥) ⌝ }
 {}
