@@ -1,11 +1,11 @@
 -- A row in the making.
-use Rattle.std.specs.Prelude.{◌≡◌, ℕ, ◌+◌, ◌-◌, ◌<◌, ◌≤◌, min, max, Bool, true, false, cond, ◌&&◌, List, length, replicate, Ok, Err, Result, ◌==◌, nat_le, nat_lt, slice_index_or, slice_set}
+use Rattle.std.specs.Prelude.{◌≡◌, ℕ, ◌+◌, ◌-◌, min, max, Bool, true, false, cond, ◌&&◌, List, replicate, Ok, Err, Result, ◌==◌, nat_le, nat_lt, slice_index_or, slice_set}
 use Rattle.sets.specs.declared.Run.{Run}
 use Rattle.sets.specs.declared.SetRefusal.{SetRefusal}
 use Rattle.sets.specs.declared.SetRefusal.TheVariants.{NotHeld}
-use Rattle.sets.specs.Sets.{Values, ◌∈◌, joined}
+use Rattle.sets.specs.Sets.{Values}
 use Rattle.amounts.specs.declared.draft.Draft.{Draft}
-use Rattle.amounts.specs.Rows.{members, places, few, Filled, Tidy}
+use Rattle.amounts.specs.Rows.{members, places, few, Tidy}
 
 -- no runs, in a row of so many places
 abbrev pub no_runs : ℕ → Draft

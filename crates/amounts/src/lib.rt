@@ -1,5 +1,7 @@
 //! Amounts: sets of values below 2,000,000,000 with at most eight maximal runs.
 
+#![tactic(auto)]
+
 ghost use Rattle.std.specs.Prelude.{◌≡◌, ◌<◌, ◌≤◌, OnOk};
 ghost use Rattle.amounts.specs.Amounts.{held, IsTidy, members_of, OneTidyRowEach};
 ghost use Rattle.amounts.specs.Limits.{amounts_top, most_runs};

@@ -1,5 +1,7 @@
 //! Checks the sheets of a sample survey: which fields are outside their domains, which edits fail.
 
+#![tactic(auto)]
+
 ghost use Rattle.std.specs.Prelude.{◌≡◌, ◌<◌, ◌≤◌, MatchResult};
 ghost use Rattle.sets.specs.Sets.{between};
 ghost use Rattle.sets.specs.Word.{bit};

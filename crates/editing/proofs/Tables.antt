@@ -1,5 +1,5 @@
 -- Tables and slices, read as edits and records.
-use Rattle.std.proofs.Common.{◌≡◌, ℕ, zero, suc, ◌+◌, ◌*◌, ◌<◌, ◌≤◌, Bool, ltb, List, [], ◌∷◌, map, length, get_or, sym, refl, ap, ◌∙◌, subst, inl, inr, zero-mul, arith}
+use Rattle.std.proofs.Common.{◌≡◌, ℕ, zero, suc, ◌+◌, ◌*◌, ◌<◌, ◌≤◌, ltb, List, [], ◌∷◌, length, get_or, sym, ap, ◌∙◌, inl, inr, zero-mul, arith}
 use mathlib.Core.List.Memᴰ
 use native.Mathlib.Decide.{ℕ_discrete}
 use Rattle.std.proofs.lemmas.Bool.{cond-true, lt-ltb}
@@ -43,7 +43,7 @@ module _ (edit : ℕ → Edit) where
 
   -- and each edit of the list is such a row
   pub among_row : (j c : ℕ) (e : Edit) → e among rows edit j c → (i : ℕ) × (j ≤ i) × (i < j + c) × (e ≡ edit i)
-  among_row j zero e m = absurd (Memᴰ.not_nil m)
+  among_row j zero e m = absurd (Memᴰ.not-nil m)
   among_row j (suc c) e m = at_row (among_row (suc j) c e)
     where
       at_row : (e among rows edit (suc j) c → (i : ℕ) × (suc j ≤ i) × (i < suc j + c) × (e ≡ edit i)) → (i : ℕ) × (j ≤ i) × (i < j + suc c) × (e ≡ edit i)

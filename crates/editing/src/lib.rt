@@ -3,6 +3,8 @@
 //! The definitions stand in `specs/`, over sets of values as membership tests. A function here does
 //! nothing; its contract is a theorem about the definitions, so the gate asks for the proof.
 
+#![tactic(auto)]
+
 ghost use Rattle.editing.specs.Theorems.{ContainedAddsNothing, ContainsIsAnOrder, LargerFailsToo};
 
 /// Each edit contains itself, and an edit contains what is contained in one that it contains.

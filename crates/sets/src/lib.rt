@@ -1,5 +1,7 @@
 //! Sets of values: the traits that generic code sees, and codes.
 
+#![tactic(auto)]
+
 ghost use Rattle.std.specs.Prelude.{◌≡◌, ℕ, ◌<◌, ◌≤◌, Bool, true, false, Decides, ◌≢◌};
 ghost use Rattle.sets.specs.Placing.{Placed, RunPlaced};
 ghost use Rattle.sets.specs.Refusals.{number_of};

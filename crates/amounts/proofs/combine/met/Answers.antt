@@ -7,27 +7,27 @@ use Rattle.amounts.proofs.Combining.{room, met_end, meet_mine, meet_theirs, meet
 use Rattle.amounts.specs.Limits.{most_runs}
 use Rattle.amounts.proofs.combine.met.Goals as goal
 
-pub add-common-requires : goal.add-common-requires
-add-common-requires c =
+pub add_common-requires : goal.add_common-requires
+add_common-requires c =
     let top = c.args.top in
     let row = c.args.row.now in
     let other = c.args.other.now in
     let at = c.loop-mine in
     record { room = room top most_runs (met (values top most_runs row) (values top most_runs other)) at.draft _ (search rules) at.invariant.2 }
 
-pub returns-in-err-add-common : goal.returns-in-err-add-common
-returns-in-err-add-common c =
+pub returns-in_err-add_common : goal.returns-in_err-add_common
+returns-in_err-add_common c =
     let top = c.args.top in
     let row = c.args.row.now in
     let other = c.args.other.now in
     let at = c.loop-mine in
-    let p = err_from_is_err_and c.from-residual.result c.from-residual.ensures.1 in
+    let p = err_from_is_err_and c.from_residual.result c.from_residual.ensures.1 in
     record {
       made =
           rw (p.1, p.2)
           (meet_refused top most_runs (met (values top most_runs row) (values top most_runs other)) at.draft _ _ at.invariant.0 at.invariant.1 at.invariant.2 c.in-Some.a c.in-Some-run.b _ _
-          (ap (from_run top most_runs row at.mine.next) c.in-Some.is) (ap (from_run top most_runs other at.theirs.next) c.in-Some-run.is) c.in-err-add-common.field-0.0
-          (sym c.add-common.ensures.answer ∙ c.in-err-add-common.was));
+          (ap (from_run top most_runs row at.mine.next) c.in-Some.is) (ap (from_run top most_runs other at.theirs.next) c.in-Some-run.is) c.in_err-add_common.field-0.0
+          (sym c.add_common.ensures.answer ∙ c.in_err-add_common.was));
     }
 
 pub loop-mine-preserved-then-a-b : goal.loop-mine-preserved-then-a-b
@@ -40,8 +40,8 @@ loop-mine-preserved-then-a-b c =
       at.invariant.1,
       meet_mine top most_runs (met (values top most_runs row) (values top most_runs other)) at.draft _ _ at.invariant.0 at.invariant.1 at.invariant.2 c.in-Some.a c.in-Some-run.b _ _
           (ap (from_run top most_runs row at.mine.next) c.in-Some.is ∙ ap (λ (xs : List Run). c.in-Some.a ∷ xs) (sym c.after-mine.ensures.ahead))
-          (ap (from_run top most_runs other at.theirs.next) c.in-Some-run.is) (search rules) _ c.add-common.ensures.draft
-          (sym c.add-common.ensures.answer ∙ c.in-ok-add-common.was),
+          (ap (from_run top most_runs other at.theirs.next) c.in-Some-run.is) (search rules) _ c.add_common.ensures.draft
+          (sym c.add_common.ensures.answer ∙ c.in_ok-add_common.was),
     )
 
 pub loop-mine-preserved : goal.loop-mine-preserved
@@ -54,17 +54,17 @@ loop-mine-preserved c =
       search rules,
       meet_theirs top most_runs (met (values top most_runs row) (values top most_runs other)) at.draft _ _ at.invariant.0 at.invariant.1 at.invariant.2 c.in-Some.a c.in-Some-run.b _ _
           (ap (from_run top most_runs row at.mine.next) c.in-Some.is)
-          (ap (from_run top most_runs other at.theirs.next) c.in-Some-run.is ∙ ap (λ (xs : List Run). c.in-Some-run.b ∷ xs) (sym c.after-theirs.ensures.ahead)) (search rules) _ c.add-common.ensures.draft
-          (sym c.add-common.ensures.answer ∙ c.in-ok-add-common.was),
+          (ap (from_run top most_runs other at.theirs.next) c.in-Some-run.is ∙ ap (λ (xs : List Run). c.in-Some-run.b ∷ xs) (sym c.after-theirs.ensures.ahead)) (search rules) _ c.add_common.ensures.draft
+          (sym c.add_common.ensures.answer ∙ c.in_ok-add_common.was),
     )
 
-pub returns-in-default-run : goal.returns-in-default-run
-returns-in-default-run c =
+pub returns-in_default-run : goal.returns-in_default-run
+returns-in_default-run c =
     let top = c.args.top in
     let row = c.args.row.now in
     let other = c.args.other.now in
     let at = c.loop-mine in
-    record { made = met_end top most_runs (met (values top most_runs row) (values top most_runs other)) at.draft _ _ at.invariant.2 (inr (ap (from_run top most_runs other at.theirs.next) c.in-default-run.is)) }
+    record { made = met_end top most_runs (met (values top most_runs row) (values top most_runs other)) at.draft _ _ at.invariant.2 (inr (ap (from_run top most_runs other at.theirs.next) c.in_default-run.is)) }
 
 pub returns : goal.returns
 returns c =
@@ -72,4 +72,4 @@ returns c =
     let row = c.args.row.now in
     let other = c.args.other.now in
     let at = c.loop-mine in
-    record { made = met_end top most_runs (met (values top most_runs row) (values top most_runs other)) at.draft _ _ at.invariant.2 (inl (ap (from_run top most_runs row at.mine.next) c.in-default.is)) }
+    record { made = met_end top most_runs (met (values top most_runs row) (values top most_runs other)) at.draft _ _ at.invariant.2 (inl (ap (from_run top most_runs row at.mine.next) c.in_default.is)) }

@@ -17,5 +17,5 @@ returns-else-stands c =
       ascending = tt;
     }
 
-pub returns-else-place-lt-MOST-RUNS : goal.returns-else-place-lt-MOST-RUNS
-returns-else-place-lt-MOST-RUNS c = record { ahead = sym (ends c.args.top most_runs c.args.row.now c.args.place c.args.least (search rules)); ascending = tt }
+pub returns-else-place-lt-MOST_RUNS : goal.returns-else-place-lt-MOST_RUNS
+returns-else-place-lt-MOST_RUNS c = record { ahead = sym (ends c.args.top most_runs c.args.row.now c.args.place c.args.least (search rules)); ascending = tt }

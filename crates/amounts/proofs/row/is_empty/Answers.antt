@@ -5,4 +5,4 @@ use Rattle.amounts.proofs.row.is_empty.Goals as goal
 pub returns : goal.returns
 returns c =
     let at = c.first.result in
-    record { decides = empty_row c.args.top most_runs c.args.row.now at.next at.run c.first.ensures.ahead c.first.ensures.ascending c.is-none.result c.is-none.ensures }
+    record { decides = empty_row c.args.top most_runs c.args.row.now at.next at.run c.first.ensures.ahead c.first.ensures.ascending c.is_none.result c.is_none.ensures }

@@ -5,15 +5,15 @@ use Rattle.amounts.proofs.Walks.{nothing_covers, cannot_cover, pass, unpass}
 use Rattle.amounts.specs.Limits.{most_runs}
 use Rattle.amounts.proofs.row.within.Goals as goal
 
-pub returns-in-default-run : goal.returns-in-default-run
-returns-in-default-run c =
+pub returns-in_default-run : goal.returns-in_default-run
+returns-in_default-run c =
     let top = c.args.top in
     let row = c.args.row.now in
     let other = c.args.other.now in
     let at = c.loop-mine in
     record {
       decides =
-          nothing_covers (values top most_runs row) (values top most_runs other) top top _ _ at.invariant.0 at.invariant.1 at.invariant.2 c.in-Some.run' _ (ap (from_run top most_runs row at.mine.next) c.in-Some.is) (ap (from_run top most_runs other at.theirs.next) c.in-default-run.is);
+          nothing_covers (values top most_runs row) (values top most_runs other) top top _ _ at.invariant.0 at.invariant.1 at.invariant.2 c.in-Some.run' _ (ap (from_run top most_runs row at.mine.next) c.in-Some.is) (ap (from_run top most_runs other at.theirs.next) c.in_default-run.is);
     }
 
 pub returns-else-cover-run : goal.returns-else-cover-run

@@ -6,5 +6,5 @@ pub returns : goal.returns
 returns g c =
     record {
       decides =
-          decides_inside g.K.ValueSet.has c.args.self.now c.args.values.now c.outside-mask.result (search rules) c.outside-mask.ensures.value;
+          decides_inside g.K.ValueSet.has c.args.self.now c.args.values.now c.outside_mask.result (search rules) c.outside_mask.ensures.value;
     }

@@ -9,7 +9,7 @@ loop-i-preserved g c =
     elim c.if-not-contains.branch [
       | then-not-contains w ↦
           found_outside g.K.ValueSet.has c.args.self.now c.requires.ready.book c.args.values.now c.loop-i.i c.loop-i-test.true c.index-sets-i.result c.index-sets-i.is _ _
-          c.loop-i.invariant w.if-not-contains.ensures.value (ap bit w.mask-is ∙ w.with-field-mask.ensures.value)
+          c.loop-i.invariant w.if-not-contains.ensures.value (ap bit w.mask-is ∙ w.with_field-mask.ensures.value)
       | else-not-contains w ↦
           found_inside g.K.ValueSet.has c.args.self.now c.requires.ready.book c.args.values.now c.loop-i.i c.loop-i-test.true c.index-sets-i.result c.index-sets-i.is _ _
           c.loop-i.invariant w.if-not-contains.ensures.value w.mask-is
