@@ -1,5 +1,4 @@
 //! Amounts: sets of values below 2,000,000,000 with at most eight maximal runs.
-
 #![tactic(auto)]
 
 ghost use Rattle.std.specs.Prelude.{◌≡◌, ◌<◌, ◌≤◌, OnOk};

@@ -5,8 +5,8 @@ use std::process::Abort;
 use std::test::Fail;
 
 fn span(low: u32, high: u32) -> Result<Amounts, SetRefusal> {
-    let mut set = <Amounts as ValueSet>::empty();
-    <Amounts as ValueSet>::run(low, high, &mut set)?;
+    let mut set = Amounts::empty();
+    Amounts::run(low, high, &mut set)?;
     Ok(set)
 }
 
@@ -74,12 +74,12 @@ fn a_run_that_is_none_is_refused_and_the_place_stays(rt: HostRuntime) -> Result<
         (7, 6),
     ] {
         assert_eq!(rt;
-            <Amounts as ValueSet>::run(low, high, &mut place),
+            Amounts::run(low, high, &mut place),
             Err(SetRefusal::NotARun)
         );
     }
     assert!(rt; place.equals(&span(5, 9)?));
-    assert_eq!(rt; <Amounts as ValueSet>::run(0, 0, &mut place), Ok(()));
+    assert_eq!(rt; Amounts::run(0, 0, &mut place), Ok(()));
     assert!(rt; place.contains(0) && !place.contains(1));
     Ok(())
 }
@@ -106,9 +106,7 @@ fn what_follows_the_first_bad_run_counts_for_nothing(rt: HostRuntime) -> Result<
 fn a_row_whose_first_run_is_bad_is_empty(rt: HostRuntime) -> Result<(), Fail> {
     let mut odd = eight();
     odd.runs[0] = run(4_294_967_295, 4_294_967_295);
-    assert!(rt;
-        odd.is_empty() && odd.equals(&<Amounts as ValueSet>::empty()) && odd.is_within(&span(0, 0)?)
-    );
+    assert!(rt; odd.is_empty() && odd.equals(&Amounts::empty()) && odd.is_within(&span(0, 0)?));
     assert_eq!(rt; odd.least_non_member(20), Some(20));
     assert_eq!(rt; next_run(&odd, 0), None);
     Ok(())
@@ -191,9 +189,9 @@ fn eight_and_eight_meet_in_fifteen(rt: HostRuntime) -> Result<(), Fail> {
 
 #[test]
 fn those_below_86_meet_in_eight(rt: HostRuntime) -> Result<(), Fail> {
-    let mut low = <Amounts as ValueSet>::empty();
+    let mut low = Amounts::empty();
     assert_eq!(rt; eight().meet(&span(0, 85)?, &mut low), Ok(()));
-    let mut place = <Amounts as ValueSet>::empty();
+    let mut place = Amounts::empty();
     assert_eq!(rt; moved().meet(&low, &mut place), Ok(()));
     assert_eq!(rt; place.runs[0], run(10, 15));
     assert_eq!(rt; place.runs[7], run(80, 85));
@@ -204,7 +202,7 @@ fn those_below_86_meet_in_eight(rt: HostRuntime) -> Result<(), Fail> {
 #[test]
 fn runs_that_touch_or_overlap_become_one(rt: HostRuntime) -> Result<(), Fail> {
     let whole = span(0, 9)?;
-    let mut place = <Amounts as ValueSet>::empty();
+    let mut place = Amounts::empty();
     for (low, high, first, last) in [(0, 4, 5, 9), (5, 9, 0, 4), (0, 7, 2, 9), (0, 9, 3, 4)] {
         assert_eq!(rt;
             span(low, high)?.join(&span(first, last)?, &mut place),
@@ -220,7 +218,7 @@ fn runs_that_touch_or_overlap_become_one(rt: HostRuntime) -> Result<(), Fail> {
 
 #[test]
 fn runs_meet_at_their_ends(rt: HostRuntime) -> Result<(), Fail> {
-    let mut place = <Amounts as ValueSet>::empty();
+    let mut place = Amounts::empty();
     assert_eq!(rt; span(0, 4)?.meet(&span(4, 9)?, &mut place), Ok(()));
     assert_eq!(rt; place.runs, span(4, 4)?.runs);
     assert_eq!(rt; span(0, 4)?.meet(&span(5, 9)?, &mut place), Ok(()));
@@ -230,7 +228,7 @@ fn runs_meet_at_their_ends(rt: HostRuntime) -> Result<(), Fail> {
 
 #[test]
 fn steps_go_up_to_the_last_value(rt: HostRuntime) -> Result<(), Fail> {
-    let mut ends = <Amounts as ValueSet>::empty();
+    let mut ends = Amounts::empty();
     assert_eq!(rt; ends.least_member(0), None);
     assert_eq!(rt; ends.least_non_member(0), Some(0));
     assert_eq!(rt;
@@ -260,8 +258,8 @@ fn check_runs<K: Stepping>(rt: &impl Abort, set: &K, runs: [(u32, Option<Run>); 
 
 #[test]
 fn runs_of_both_kinds_are_found_by_one_function(rt: HostRuntime) {
-    let mut codes = <Codes as ValueSet>::empty();
-    assert_eq!(rt; <Codes as ValueSet>::run(3, 9, &mut codes), Ok(()));
+    let mut codes = Codes::empty();
+    assert_eq!(rt; Codes::run(3, 9, &mut codes), Ok(()));
     check_runs(
         &rt,
         &codes,
@@ -278,7 +276,7 @@ fn runs_of_both_kinds_are_found_by_one_function(rt: HostRuntime) {
         &eight(),
         [(0, Some(run(0, 15))), (36, Some(run(40, 55))), (156, None)],
     );
-    let none = <Amounts as ValueSet>::empty();
+    let none = Amounts::empty();
     check_runs(
         &rt,
         &none,

@@ -1,5 +1,4 @@
 //! The book of a survey: its refusals, its measure, and the questions asked of a record.
-
 #![tactic(auto)]
 
 ghost use Rattle.std.specs.Prelude.{◌≡◌, ℕ, ◌+◌, ◌*◌, ◌<◌, ◌≤◌, length, Decides};

@@ -1,5 +1,4 @@
 //! Checks the sheets of a sample survey: which fields are outside their domains, which edits fail.
-
 #![tactic(auto)]
 
 ghost use Rattle.std.specs.Prelude.{◌≡◌, ◌<◌, ◌≤◌, MatchResult};
@@ -30,8 +29,8 @@ const SHEETS: [[u32; 3]; 6] = [
 fn span(low: u32, high: u32) -> Result<Codes, Refusal>
     ensures cases { MatchResult result (λ s. bit s.0 ≡ between low high) (λ e. (e ≡ Refusal.NotARun) × (low ≤ high → high < 64 → ⊥)) }
 {
-    let mut set = <Codes as ValueSet>::empty();
-    <Codes as ValueSet>::run(low, high, &mut set)?;
+    let mut set = Codes::empty();
+    Codes::run(low, high, &mut set)?;
     Ok(set)
 }
 
@@ -41,7 +40,7 @@ fn sample_sets() -> Result<[Codes; 9], Refusal> {
     let years = span(0, 1)?;
     let role = span(0, 2)?;
     let wage = span(0, 2)?;
-    let mut outer_roles = <Codes as ValueSet>::empty();
+    let mut outer_roles = Codes::empty();
     span(0, 0)?.join(&span(2, 2)?, &mut outer_roles)?;
     Ok([
         years,

@@ -2,7 +2,6 @@
 //!
 //! The definitions stand in `specs/`, over sets of values as membership tests. A function here does
 //! nothing; its contract is a theorem about the definitions, so the gate asks for the proof.
-
 #![tactic(auto)]
 
 ghost use Rattle.editing.specs.Theorems.{ContainedAddsNothing, ContainsIsAnOrder, LargerFailsToo};

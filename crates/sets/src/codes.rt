@@ -95,8 +95,8 @@ mod tests {
     use std::test::Fail;
 
     fn span(low: u32, high: u32) -> Result<Codes, SetRefusal> {
-        let mut set = <Codes as ValueSet>::empty();
-        <Codes as ValueSet>::run(low, high, &mut set)?;
+        let mut set = Codes::empty();
+        Codes::run(low, high, &mut set)?;
         Ok(set)
     }
 
@@ -115,22 +115,13 @@ mod tests {
     #[test]
     fn a_run_that_is_none_is_refused_and_the_place_stays(rt: HostRuntime) -> Result<(), Fail> {
         let mut place = span(5, 9)?;
+        assert_eq!(rt; Codes::run(0, 64, &mut place), Err(SetRefusal::NotARun));
+        assert_eq!(rt; Codes::run(64, 64, &mut place), Err(SetRefusal::NotARun));
         assert_eq!(rt;
-            <Codes as ValueSet>::run(0, 64, &mut place),
+            Codes::run(1, 4_294_967_295, &mut place),
             Err(SetRefusal::NotARun)
         );
-        assert_eq!(rt;
-            <Codes as ValueSet>::run(64, 64, &mut place),
-            Err(SetRefusal::NotARun)
-        );
-        assert_eq!(rt;
-            <Codes as ValueSet>::run(1, 4_294_967_295, &mut place),
-            Err(SetRefusal::NotARun)
-        );
-        assert_eq!(rt;
-            <Codes as ValueSet>::run(7, 6, &mut place),
-            Err(SetRefusal::NotARun)
-        );
+        assert_eq!(rt; Codes::run(7, 6, &mut place), Err(SetRefusal::NotARun));
         assert_eq!(rt; place.0, 0b11_1110_0000);
         assert_eq!(rt; SetRefusal::NotARun.number(), 6);
         assert_eq!(rt; SetRefusal::NotHeld.number(), 13);
@@ -141,12 +132,12 @@ mod tests {
     fn sets_meet_and_join_and_compare_by_their_members(rt: HostRuntime) -> Result<(), Fail> {
         let low = span(0, 40)?;
         let high = span(30, 63)?;
-        let mut both = <Codes as ValueSet>::empty();
+        let mut both = Codes::empty();
         assert!(rt; both.is_empty() && !low.is_empty());
         low.meet(&high, &mut both)?;
         assert!(rt; both.equals(&span(30, 40)?));
         assert!(rt; both.is_within(&low) && both.is_within(&high) && !low.is_within(&both));
-        let mut either = <Codes as ValueSet>::empty();
+        let mut either = Codes::empty();
         low.join(&high, &mut either)?;
         assert!(rt; either.equals(&span(0, 63)?) && !either.equals(&low));
         span(0, 29)?.meet(&high, &mut either)?;
@@ -169,8 +160,8 @@ mod tests {
             assert_eq!(rt; ends.least_member(from), member);
             assert_eq!(rt; ends.least_non_member(from), Some(other));
         }
-        assert_eq!(rt; <Codes as ValueSet>::empty().least_member(0), None);
-        assert_eq!(rt; <Codes as ValueSet>::empty().least_non_member(0), Some(0));
+        assert_eq!(rt; Codes::empty().least_member(0), None);
+        assert_eq!(rt; Codes::empty().least_non_member(0), Some(0));
         assert_eq!(rt; Codes(u64::MAX).least_non_member(0), Some(64));
     }
 

@@ -1,5 +1,4 @@
 //! Sets of values: the traits that generic code sees, and codes.
-
 #![tactic(auto)]
 
 ghost use Rattle.std.specs.Prelude.{◌≡◌, ℕ, ◌<◌, ◌≤◌, Bool, true, false, Decides, ◌≢◌};
