@@ -14,3 +14,8 @@ module _ {S : Type 0} (has : S → Values) where
   abbrev pub Placed : (Values → Bool) → Values → S → S → Result (Unit {0}) SetRefusal → Type 0
   Placed holds wanted before after (Ok _) = (holds wanted ≡ true) × (has after ≡ wanted)
   Placed holds wanted before after (Err e) = (e ≡ NotHeld) × (holds wanted ≡ false) × (after ≡ before)
+
+  -- the run is made, or there is no such run below the top
+  abbrev pub RunMade : ℕ → ℕ → ℕ → Result S SetRefusal → Type 0
+  RunMade top low high (Ok s) = (low ≤ high) × (high < top) × (has s ≡ between low high)
+  RunMade top low high (Err e) = (e ≡ NotARun) × (low ≤ high → high < top → ⊥)

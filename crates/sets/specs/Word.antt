@@ -1,14 +1,11 @@
 -- A word as a set of the values below 64.
-use Rattle.std.specs.Prelude.{◌≡◌, ℕ, ◌/◌, ◌%◌, ◌^◌, ◌<◌, ◌&&◌, ◌==◌, nat_lt}
+use Rattle.std.specs.Prelude.{◌≡◌, ℕ, ◌^◌, ◌<◌, ◌&&◌, ◌==◌, nat_lt}
+use Rattle.std.specs.Int.{bit_at}
 use Rattle.sets.specs.Sets.{Values, ◌∈◌}
-
--- the binary digit of n at the place v
-abbrev pub digit : ℕ → ℕ → ℕ
-digit n v = n / 2 ^ v % 2
 
 -- v is below 64, and its bit is set
 abbrev pub bit : ℕ → Values
-bit n v = nat_lt v 64 && digit n v == 1
+bit n v = nat_lt v 64 && bit_at n v == 1
 
 -- Every set of values below 64 is that of just one word.
 abbrev pub OneWordEach : Type 0

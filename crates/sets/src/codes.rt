@@ -91,21 +91,15 @@ pub fn each_set_has_one_word()
 #[cfg(test)]
 mod tests {
     use super::*;
-    use crate::{Run, next_run};
+    use crate::{Run, next_run, run_of};
     use std::test::Fail;
-
-    fn span(low: u32, high: u32) -> Result<Codes, SetRefusal> {
-        let mut set = Codes::empty();
-        Codes::run(low, high, &mut set)?;
-        Ok(set)
-    }
 
     #[test]
     fn the_last_code_is_63(rt: HostRuntime) -> Result<(), Fail> {
-        let last = span(63, 63)?;
+        let last = run_of::<Codes>(63, 63)?;
         assert!(rt; last.contains(63) && !last.contains(62));
         assert!(rt; !last.contains(64) && !last.contains(4_294_967_295));
-        let all = span(0, 63)?;
+        let all = run_of::<Codes>(0, 63)?;
         assert!(rt; all.contains(0) && all.contains(63));
         assert!(rt; !all.contains(64) && !all.contains(4_294_967_295));
         assert_eq!(rt; all.0, 18_446_744_073_709_551_615);
@@ -114,7 +108,7 @@ mod tests {
 
     #[test]
     fn a_run_that_is_none_is_refused_and_the_place_stays(rt: HostRuntime) -> Result<(), Fail> {
-        let mut place = span(5, 9)?;
+        let mut place = run_of::<Codes>(5, 9)?;
         assert_eq!(rt; Codes::run(0, 64, &mut place), Err(SetRefusal::NotARun));
         assert_eq!(rt; Codes::run(64, 64, &mut place), Err(SetRefusal::NotARun));
         assert_eq!(rt;
@@ -130,17 +124,17 @@ mod tests {
 
     #[test]
     fn sets_meet_and_join_and_compare_by_their_members(rt: HostRuntime) -> Result<(), Fail> {
-        let low = span(0, 40)?;
-        let high = span(30, 63)?;
+        let low = run_of::<Codes>(0, 40)?;
+        let high = run_of::<Codes>(30, 63)?;
         let mut both = Codes::empty();
         assert!(rt; both.is_empty() && !low.is_empty());
         low.meet(&high, &mut both)?;
-        assert!(rt; both.equals(&span(30, 40)?));
+        assert!(rt; both.equals(&run_of::<Codes>(30, 40)?));
         assert!(rt; both.is_within(&low) && both.is_within(&high) && !low.is_within(&both));
         let mut either = Codes::empty();
         low.join(&high, &mut either)?;
-        assert!(rt; either.equals(&span(0, 63)?) && !either.equals(&low));
-        span(0, 29)?.meet(&high, &mut either)?;
+        assert!(rt; either.equals(&run_of::<Codes>(0, 63)?) && !either.equals(&low));
+        run_of::<Codes>(0, 29)?.meet(&high, &mut either)?;
         assert!(rt; either.is_empty());
         Ok(())
     }

@@ -1,8 +1,8 @@
 //! Sets of values: the traits that generic code sees, and codes.
 #![tactic(auto)]
 
-ghost use Rattle.std.specs.Prelude.{◌≡◌, ℕ, ◌<◌, ◌≤◌, Bool, true, false, Decides, ◌≢◌};
-ghost use Rattle.sets.specs.Placing.{Placed, RunPlaced};
+ghost use Rattle.std.specs.Prelude.{◌≡◌, ℕ, ◌<◌, ◌≤◌, Bool, true, false, ◌↔◌, IsTrue, ◌≢◌};
+ghost use Rattle.sets.specs.Placing.{Placed, RunMade, RunPlaced};
 ghost use Rattle.sets.specs.Refusals.{number_of};
 ghost use Rattle.sets.specs.Sets.{between, joined, met, nothing, others, Values, Within};
 ghost use Rattle.sets.specs.Steps.{FirstRun, Least};
@@ -14,9 +14,9 @@ mod word;
 #[derive(Clone, Copy, PartialEq, Eq, Debug)]
 pub enum SetRefusal {
     /// Low is above high, or high is not below the kind's top: pass the bounds of a run.
-    NotARun,
+    NotARun = 6,
     /// The kind has no value with just these members: take simpler sets, or another kind.
-    NotHeld,
+    NotHeld = 13,
 }
 
 impl SetRefusal {
@@ -24,10 +24,7 @@ impl SetRefusal {
     pub fn number(self) -> u8
         ensures value { result ≡ number_of self }
     {
-        match self {
-            SetRefusal::NotARun => 6,
-            SetRefusal::NotHeld => 13,
-        }
+        self as u8
     }
 }
 
@@ -67,15 +64,17 @@ pub trait ValueSet: Copy {
 
     /// Whether there is no member.
     fn is_empty(&self) -> bool
-        ensures decides { Decides result (has self.now ≡ nothing) };
+        ensures decides { IsTrue result ↔ (has self.now ≡ nothing) };
 
     /// Whether both have the same members.
+    // No `PartialEq`: its laws are asked of every record of the type, also of words past 64 bits that
+    // no value holds, and a derived `==` tells those apart where their members are the same.
     fn equals(&self, other: &Self) -> bool
-        ensures decides { Decides result (has self.now ≡ has other.now) };
+        ensures decides { IsTrue result ↔ (has self.now ≡ has other.now) };
 
     /// Whether each member is one of `other`.
     fn is_within(&self, other: &Self) -> bool
-        ensures decides { Decides result (Within (has self.now) (has other.now)) };
+        ensures decides { IsTrue result ↔ (Within (has self.now) (has other.now)) };
 
     /// Puts the common members into the place.
     fn meet(&self, other: &Self, place: &mut Self) -> Result<(), SetRefusal>
@@ -106,6 +105,15 @@ pub trait Stepping: ValueSet {
     /// The least value from `from` on that is no member.
     fn least_non_member(&self, from: u32) -> Option<u32>
         ensures least { Least (others (Self.ValueSet.has self.now)) from result };
+}
+
+/// The set of the values from `low` to `high`, where the caller has no place of its own to lend.
+pub fn run_of<K: ValueSet>(low: u32, high: u32) -> Result<K, SetRefusal>
+    ensures made { RunMade K.ValueSet.has K.ValueSet.top low high result }
+{
+    let mut set = K::empty();
+    K::run(low, high, &mut set)?;
+    Ok(set)
 }
 
 /// The first run of members from `from` on, of a set of any stepping kind. It ends where the next
