@@ -1,5 +1,5 @@
 -- What a draft holds after a run is added.
-use Rattle.std.proofs.Common.{◌≡◌, ℕ, suc, ◌+◌, ◌-◌, ◌<◌, ◌≤◌, max, Bool, true, false, cond, ◌||◌, eqb, ltb, leb, List, length, get_or, Ok, Err, Result, sym, ap, ◌∙◌, subst, ap₂, inl, inr, add-one, arith, length-set}
+use Rattle.std.proofs.Common.{Some, ◌≡◌, ℕ, suc, ◌+◌, ◌-◌, ◌<◌, ◌≤◌, max, Bool, true, false, cond, ◌||◌, eqb, ltb, leb, List, length, get_or, Ok, Err, Result, sym, ap, ◌∙◌, subst, ap₂, inl, inr, add-one, arith, length-set}
 use mathlib.Core.Path.{fun_ext}
 use Rattle.std.proofs.lemmas.List.{get_or-set_same}
 use Rattle.std.proofs.lemmas.Bool.{and_parts, cases_Bool, cases_lt, or_cases, or_left, or_right, leb-true, ltb-true, eqb-true, eqb-false, le-leb, lt-leb}
@@ -9,19 +9,21 @@ use Rattle.sets.specs.declared.SetRefusal.{SetRefusal}
 use Rattle.sets.specs.declared.SetRefusal.TheVariants.{NotHeld}
 use Rattle.sets.specs.Sets.{Values, ◌∈◌, nothing, between, joined}
 use Rattle.amounts.specs.declared.draft.Draft.{Draft}
-use Rattle.amounts.specs.Rows.{counted, members, starts, few, Filled}
-use Rattle.amounts.specs.Drafts.{last, touches, widened, pushed, added, answered, Made}
+use Rattle.amounts.specs.Pieces.{Splits}
+use Rattle.amounts.specs.Rows.{counted, inside, members, starts, few, Filled}
+use Rattle.amounts.specs.Drafts.{last, no_runs, touches, widened, pushed, added, answered, Made}
 use Rattle.amounts.specs.RowsLemmas.{ascends, places_all}
 use Rattle.amounts.proofs.Drafts.{Drafts}
 use Rattle.amounts.specs.Runs.{or_nothing, or_assoc, between_true, is_between}
 use Rattle.amounts.specs.Counting.{starts_apart, starts_inside, starts_some}
-use Rattle.amounts.proofs.Drafting.{Grown, push, widen, last_most, filled_counts, filled_most}
+use Rattle.amounts.proofs.Drafting.{Grown, push, widen, last_most, blank_counts, filled_counts, filled_most}
+use Rattle.amounts.proofs.Singles.{blanks, blanks_filled, blanks_long}
 
 pub starts_filled : (top k : ℕ) (rs : List Run) → Filled top 0 k rs → starts top (members top rs) ≡ k
 starts_filled top k rs f = starts_inside top 0 (counted top 0 rs) (ascends top 0 rs) top (omega arith) ∙ filled_counts top 0 k rs f
 
 -- nothing is left to come
-pub finished : (top most : ℕ) (A : Values) (d : Draft) → Drafts top most A d nothing → Made top most A (Ok d.runs)
+finished : (top most : ℕ) (A : Values) (d : Draft) → Drafts top most A d nothing → Made top most A (Ok d.runs)
 finished top most A d s =
     let same : A ≡ members top d.runs = s.whole ∙ fun_ext (λ v. or_nothing (members top d.runs v)) in (
       le-leb (starts top A) most (omega (arith, ap (starts top) same, starts_filled top d.count d.runs s.filled, filled_most top 0 d.count d.runs s.filled, s.long)),
@@ -29,7 +31,7 @@ finished top most A d s =
       record { count = d.count; filled = s.filled; long = s.long },
     )
 
-pub no_refusal : (why : SetRefusal) → ◌≡◌ {A = Result (Unit {0}) SetRefusal} (Ok tt) (Err why) → ⊥
+no_refusal : (why : SetRefusal) → ◌≡◌ {A = Result (Unit {0}) SetRefusal} (Ok tt) (Err why) → ⊥
 no_refusal why p = let z : ◌≡◌ {A = ℕ} 0 1 = cc in omega arith
 
 same_refusal : (why : SetRefusal) → ◌≡◌ {A = Result (Unit {0}) SetRefusal} (Err NotHeld) (Err why) → why ≡ NotHeld
@@ -116,7 +118,7 @@ module _ (top most : ℕ) (A : Values) (d : Draft) (r : Run) (here next : Values
           omega (arith, ap (starts top) s.whole, both, starts_filled top d.count d.runs s.filled, one)
 
   -- the run is in the draft, or there is no room for it
-  pub add_on : answered most d r ≡ Ok tt → Drafts top most A (added most d r) next
+  add_on : answered most d r ≡ Ok tt → Drafts top most A (added most d r) next
   add_on e =
       elim (cases_Bool (touches d r)) [
         | inl t ↦ subst (λ (x : Draft). Drafts top most A x next) (sym (ap (λ (b : Bool). cond b (widened d r) (cond (eqb d.count most) d (pushed d r))) t)) (add_widened t)
@@ -129,7 +131,7 @@ module _ (top most : ℕ) (A : Values) (d : Draft) (r : Run) (here next : Values
             ]
       ]
 
-  pub add_refused : (why : SetRefusal) → answered most d r ≡ Err why → (why ≡ NotHeld) × (few top most A ≡ false)
+  add_refused : (why : SetRefusal) → answered most d r ≡ Err why → (why ≡ NotHeld) × (few top most A ≡ false)
   add_refused why e =
       elim (cases_Bool (touches d r)) [
         | inl t ↦ absurd (no_refusal why (sym (ap (λ (b : Bool). cond b (Ok tt) (cond (eqb d.count most) (Err NotHeld) (Ok tt))) t) ∙ e))
@@ -142,3 +144,44 @@ module _ (top most : ℕ) (A : Values) (d : Draft) (r : Run) (here next : Values
               | inr f ↦ absurd (no_refusal why (sym (ap₂ (λ (b c : Bool). cond b (Ok tt) (cond c (Err NotHeld) (Ok tt))) t f) ∙ e))
             ]
       ]
+
+-- ---- the pieces of a set, one after another
+
+-- nothing is in the draft yet
+pub none_added : (top most : ℕ) (A : Values) → Drafts top most A (no_runs most) A
+none_added top most A =
+    record {
+      filled = blanks_filled top 0 most;
+      long = blanks_long most;
+      whole = fun_ext (λ v. sym (ap (λ (xs : List Run). inside xs v || A v) (blank_counts top 0 0 (blanks most) (blanks_filled top 0 most))));
+      later = λ v m h. absurd (omega arith);
+    }
+
+module _ (top most : ℕ) (A : Values) (bound : (v : ℕ) → v ∈ A → v < top) (d : Draft) (here : Values) (s : Drafts top most A d here) where
+  module _ (r : Run) (next : Values) (piece : Splits here (Some r) next) where
+    high_below : r.high < top
+    high_below =
+        let m : r.high ∈ here = ap (λ (B : Values). B r.high) piece.0 ∙ or_left _ (next r.high) (is_between r.low r.high r.high piece.2 (omega arith)) in
+        bound r.high (ap (λ (B : Values). B r.high) s.whole ∙ or_right (members top d.runs r.high) (here r.high) m)
+
+    pub piece_added : (now : Draft) → now ≡ added most d r → answered most d r ≡ Ok tt → Drafts top most A now next
+    piece_added now is e = subst (λ (x : Draft). Drafts top most A x next) (sym is) (add_on top most A d r here next s piece.0 piece.1 piece.2 high_below e)
+
+    pub piece_refused : (why : SetRefusal) → answered most d r ≡ Err why → (why ≡ NotHeld) × (few top most A ≡ false)
+    piece_refused = add_refused top most A d r here next s piece.0 piece.1 piece.2 high_below
+
+  pub all_added : here ≡ nothing → Made top most A (Ok d.runs)
+  all_added e = finished top most A d (subst (Drafts top most A d) e s)
+
+pub count_added : (most : ℕ) (d now : Draft) (r : Run) → now ≡ added most d r → d.count ≤ most → now.count ≤ most
+count_added most d now r is h =
+    subst (λ (x : Draft). x.count ≤ most) (sym is)
+    (elim (cases_Bool (touches d r)) [
+      | inl t ↦ subst (λ (b : Bool). (cond b (widened d r) (cond (eqb d.count most) d (pushed d r))).count ≤ most) (sym t) h
+      | inr t ↦
+          subst (λ (b : Bool). (cond b (widened d r) (cond (eqb d.count most) d (pushed d r))).count ≤ most) (sym t)
+          (elim (cases_Bool (eqb d.count most)) [
+            | inl f ↦ subst (λ (b : Bool). (cond b d (pushed d r)).count ≤ most) (sym f) h
+            | inr f ↦ let n = eqb-false d.count most f in subst (λ (b : Bool). (cond b d (pushed d r)).count ≤ most) (sym f) (omega (arith, n))
+          ])
+    ])

@@ -1,7 +1,8 @@
-pub mod Walks
+mod Same
+mod Walks
+mod Combining
 pub mod Drafts
 pub mod Drafting
 pub mod Adding
-pub mod Combining
 pub mod Singles
 pub mod Forms

@@ -8,7 +8,7 @@ use Rattle.amounts.specs.RowsLemmas.{stood, counted_on, places_all}
 use Rattle.amounts.specs.Runs.{or_nothing}
 use Rattle.amounts.proofs.Drafting.{blank_counts}
 
-abbrev blanks : ℕ → List Run
+abbrev pub blanks : ℕ → List Run
 blanks n = replicate n (record { low = 1; high = 0 })
 
 pub blanks_filled : (top l n : ℕ) → Filled top l 0 (blanks n)

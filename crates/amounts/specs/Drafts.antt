@@ -1,5 +1,5 @@
 -- A row in the making.
-use Rattle.std.specs.Prelude.{◌≡◌, ℕ, ◌+◌, ◌-◌, min, max, Bool, true, false, cond, ◌&&◌, List, replicate, Ok, Err, Result, ◌==◌, nat_le, nat_lt, slice_index_or, slice_set}
+use Rattle.std.specs.Prelude.{◌≡◌, ℕ, ◌+◌, ◌-◌, max, Bool, true, false, cond, ◌&&◌, List, replicate, Ok, Err, Result, ◌==◌, nat_le, nat_lt, slice_index_or, slice_set}
 use Rattle.sets.specs.declared.Run.{Run}
 use Rattle.sets.specs.declared.SetRefusal.{SetRefusal}
 use Rattle.sets.specs.declared.SetRefusal.TheVariants.{NotHeld}
@@ -31,13 +31,6 @@ added most d r = cond (touches d r) (widened d r) (cond (d.count == most) d (pus
 
 abbrev pub answered : ℕ → Draft → Run → Result (Unit {0}) SetRefusal
 answered most d r = cond (touches d r) (Ok tt) (cond (d.count == most) (Err NotHeld) (Ok tt))
-
--- what two runs have in common, if they overlap
-abbrev pub common : Run → Run → Run
-common a b = record { low = max a.low b.low; high = min a.high b.high }
-
-abbrev pub overlap : Run → Run → Bool
-overlap a b = nat_le (common a b).low (common a b).high
 
 -- a tidy row with the members of A, or A has too many runs
 abbrev pub Made : ℕ → ℕ → Values → Result (List Run) SetRefusal → Type 0

@@ -2,7 +2,7 @@ pub mod Limits
 pub mod Rows
 pub mod Walks
 pub mod Drafts
-pub mod Sides
+pub mod Pieces
 pub mod Amounts
 pub mod Held
 pub mod RowsLemmas

@@ -1,6 +1,6 @@
 -- The runs of a row that count.
-use Rattle.std.specs.Prelude.{◌≡◌, ℕ, zero, suc, ◌+◌, ◌<◌, ◌≤◌, Bool, true, false, cond, ◌&&◌, List, [], ◌∷◌, length, get_or, drop, nat_le, nat_lt, slice_index_or, refl}
-use Rattle.std.proofs.Common.{sym, ap, ◌∙◌, subst, inl, inr, add-one, arith, length-take, drop-cons}
+use Rattle.std.specs.Prelude.{◌≡◌, ℕ, ◌+◌, ◌<◌, ◌≤◌, Bool, true, false, cond, ◌&&◌, List, [], ◌∷◌, length, nat_le, nat_lt}
+use Rattle.std.proofs.Common.{sym, ap, subst, inl, inr, arith, length-take}
 use Rattle.std.proofs.lemmas.List.{take_all}
 use Rattle.std.proofs.lemmas.Bool.{and_parts, and_from, cases_Bool, leb-true, ltb-true, le-leb, lt-ltb}
 use Rattle.sets.specs.declared.Run.{Run}
@@ -41,35 +41,3 @@ module _ (top : ℕ) where
             subst (Ascending top least) (sym (counted_on least r rs e)) (s.0, s.1, s.2, ascends (r.high + 2) rs)
         | inr e ↦ subst (Ascending top least) (sym (counted_off least r rs e)) tt
       ]
-
-  -- ---- from a place on
-
-  module _ (rs : List Run) (i least : ℕ) (d : Run) (h : i < length rs) where
-    from_place : drop i rs ≡ (slice_index_or rs i d ∷ drop (i + 1) rs)
-    from_place = rw (add-one, drop-cons rs i d)
-
-    counts_at : stands top least (slice_index_or rs i d) ≡ true
-        → counted top least (drop i rs) ≡ (slice_index_or rs i d ∷ counted top ((get_or rs i d).high + 2) (drop (i + 1) rs))
-    counts_at e = ap (counted top least) from_place ∙ counted_on least (slice_index_or rs i d) (drop (i + 1) rs) e
-
-    stops_at : stands top least (slice_index_or rs i d) ≡ false → counted top least (drop i rs) ≡ []
-    stops_at e = ap (counted top least) from_place ∙ counted_off least (slice_index_or rs i d) (drop (i + 1) rs) e
-
-  -- past the last place there is nothing
-  ended_at : (rs : List Run) (i least : ℕ) → length rs ≤ i → counted top least (drop i rs) ≡ []
-  ended_at [] zero least h = refl
-  ended_at [] (suc i) least h = refl
-  ended_at (r ∷ rs) zero least h = absurd (omega arith)
-  ended_at (r ∷ rs) (suc i) least h = ended_at rs i least (omega arith)
-
-  -- in a row of as many places as there should be
-  module _ (most : ℕ) (row : List Run) (long : length row ≡ most) (i least : ℕ) (d : Run) where
-    pub counts : i < most → stands top least (slice_index_or row i d) ≡ true
-        → counted top least (drop i (places most row)) ≡ (slice_index_or row i d ∷ counted top ((get_or row i d).high + 2) (drop (i + 1) (places most row)))
-    counts h e = rw (places_all most row long) (counts_at row i least d (omega arith) e)
-
-    pub stops : i < most → stands top least (slice_index_or row i d) ≡ false → counted top least (drop i (places most row)) ≡ []
-    stops h e = rw (places_all most row long) (stops_at row i least d (omega arith) e)
-
-  pub ends : (most : ℕ) (row : List Run) (i least : ℕ) → most ≤ i → counted top least (drop i (places most row)) ≡ []
-  ends most row i least h = ended_at (places most row) i least (omega (arith, places_few most row))

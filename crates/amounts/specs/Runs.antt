@@ -54,7 +54,7 @@ past_first r rs v h = ap (λ (b : Bool). b || inside rs v) (not_between r.low r.
 
 -- ---- runs that ascend with gaps are told by their values
 
-same_run : (r t : Run) → r.low ≡ t.low → r.high ≡ t.high → r ≡ t
+pub same_run : (r t : Run) → r.low ≡ t.low → r.high ≡ t.high → r ≡ t
 same_run r t p q = ap₂ (λ (x y : ℕ). record { low = x; high = y }) p q
 
 module _ (top also least : ℕ) (r t : Run) (rs ts : List Run) (a : Ascending top least (r ∷ rs)) (b : Ascending also least (t ∷ ts))

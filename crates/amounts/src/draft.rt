@@ -1,7 +1,7 @@
 //! A row in the making.
 
-ghost use Rattle.std.specs.Prelude.{◌≡◌, ◌<◌, ◌≤◌, if◌then◌else◌, Ok};
-ghost use Rattle.amounts.specs.Drafts.{added, answered, common, last, no_runs, overlap};
+ghost use Rattle.std.specs.Prelude.{◌≡◌, ◌≤◌};
+ghost use Rattle.amounts.specs.Drafts.{added, answered, no_runs};
 ghost use Rattle.amounts.specs.Limits.{most_runs};
 
 use crate::MOST_RUNS;
@@ -11,6 +11,8 @@ use sets::{Run, SetRefusal};
 pub(crate) const BLANK: Run = Run { low: 1, high: 0 };
 
 /// The runs found so far, ascending with gaps, and how many they are.
+// An array and a count, and no `Vec`: nothing here may take memory, and the array is the row that is
+// handed out.
 #[derive(Clone, Copy)]
 pub(crate) struct Draft {
     pub(crate) runs: [Run; MOST_RUNS],
@@ -31,13 +33,13 @@ impl Draft {
     /// Adds a run that does not begin below the last one. Where the two overlap or touch, they
     /// become one.
     pub(crate) fn add(&mut self, run: Run) -> Result<(), SetRefusal>
-        requires room { (self.old.count ≤ most_runs) × ((0 < self.old.count → (last self.old).high < 4294967294)) }
+        requires room { self.old.count ≤ most_runs }
         ensures draft { self.new ≡ added most_runs self.old run }
         ensures answer { result ≡ answered most_runs self.old run }
     {
         if self.count > 0 {
             let last = self.runs[self.count - 1];
-            if run.low <= last.high + 1 {
+            if run.low <= last.high.saturating_add(1) {
                 self.runs[self.count - 1] = Run {
                     low: last.low,
                     high: last.high.max(run.high),
@@ -51,19 +53,5 @@ impl Draft {
         self.runs[self.count] = run;
         self.count += 1;
         Ok(())
-    }
-
-    /// Adds what two runs have in common, if anything.
-    pub(crate) fn add_common(&mut self, a: Run, b: Run) -> Result<(), SetRefusal>
-        requires room { (self.old.count ≤ most_runs) × ((0 < self.old.count → (last self.old).high < 4294967294)) }
-        ensures draft { self.new ≡ (if overlap a b then added most_runs self.old (common a b) else self.old) }
-        ensures answer { result ≡ (if overlap a b then answered most_runs self.old (common a b) else Ok tt) }
-    {
-        let low = a.low.max(b.low);
-        let high = a.high.min(b.high);
-        if low > high {
-            return Ok(());
-        }
-        self.add(Run { low, high })
     }
 }

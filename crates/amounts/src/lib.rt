@@ -48,7 +48,8 @@ impl Amounts {
 
     // The set of one run.
     fn of_run(run: Run) -> Amounts
-        requires below { (run.low ≤ run.high) × (run.high < amounts_top) }
+        requires ordered { run.low ≤ run.high }
+        requires below { run.high < amounts_top }
         ensures members { members_of result ≡ between run.low run.high }
         ensures tidy { IsTidy result }
     {
@@ -94,10 +95,7 @@ impl ValueSet for Amounts {
     }
 
     fn contains(&self, v: u32) -> bool {
-        match row::seek(&self.runs, TOP, v) {
-            Some(run) => run.low <= v,
-            None => false,
-        }
+        row::seek(&self.runs, TOP, v).is_some_and(|run| run.low <= v)
     }
 
     fn is_empty(&self) -> bool {
@@ -133,15 +131,12 @@ impl ValueSet for Amounts {
 
 impl Stepping for Amounts {
     fn least_member(&self, from: u32) -> Option<u32> {
-        let run = row::seek(&self.runs, TOP, from)?;
-        Some(run.low.max(from))
+        row::seek(&self.runs, TOP, from).map(|run| run.low.max(from))
     }
 
     fn least_non_member(&self, from: u32) -> Option<u32> {
-        match row::seek(&self.runs, TOP, from) {
-            Some(run) if run.low <= from => Some(run.high + 1),
-            _ => Some(from),
-        }
+        let run = row::seek(&self.runs, TOP, from).filter(|run| run.low <= from);
+        Some(run.map_or(from, |run| run.high + 1))
     }
 }
 

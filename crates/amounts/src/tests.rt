@@ -1,14 +1,8 @@
 use crate::*;
 use sets::codes::Codes;
-use sets::next_run;
+use sets::{next_run, run_of};
 use std::process::Abort;
 use std::test::Fail;
-
-fn span(low: u32, high: u32) -> Result<Amounts, SetRefusal> {
-    let mut set = Amounts::empty();
-    Amounts::run(low, high, &mut set)?;
-    Ok(set)
-}
 
 fn run(low: u32, high: u32) -> Run {
     Run { low, high }
@@ -48,8 +42,8 @@ fn moved() -> Amounts {
 
 #[test]
 fn the_last_amount_is_1_999_999_999(rt: HostRuntime) -> Result<(), Fail> {
-    let last = span(1_999_999_999, 1_999_999_999)?;
-    let all = span(0, 1_999_999_999)?;
+    let last = run_of::<Amounts>(1_999_999_999, 1_999_999_999)?;
+    let all = run_of::<Amounts>(0, 1_999_999_999)?;
     for (v, in_last, in_all) in [
         (0, false, true),
         (1_999_999_998, false, true),
@@ -66,7 +60,7 @@ fn the_last_amount_is_1_999_999_999(rt: HostRuntime) -> Result<(), Fail> {
 
 #[test]
 fn a_run_that_is_none_is_refused_and_the_place_stays(rt: HostRuntime) -> Result<(), Fail> {
-    let mut place = span(5, 9)?;
+    let mut place = run_of::<Amounts>(5, 9)?;
     for (low, high) in [
         (0, 2_000_000_000),
         (2_000_000_000, 2_000_000_000),
@@ -78,7 +72,7 @@ fn a_run_that_is_none_is_refused_and_the_place_stays(rt: HostRuntime) -> Result<
             Err(SetRefusal::NotARun)
         );
     }
-    assert!(rt; place.equals(&span(5, 9)?));
+    assert!(rt; place.equals(&run_of::<Amounts>(5, 9)?));
     assert_eq!(rt; Amounts::run(0, 0, &mut place), Ok(()));
     assert!(rt; place.contains(0) && !place.contains(1));
     Ok(())
@@ -86,7 +80,7 @@ fn a_run_that_is_none_is_refused_and_the_place_stays(rt: HostRuntime) -> Result<
 
 #[test]
 fn what_follows_the_first_bad_run_counts_for_nothing(rt: HostRuntime) -> Result<(), Fail> {
-    let plain = span(5, 7)?;
+    let plain = run_of::<Amounts>(5, 7)?;
     let mut odd = plain;
     odd.runs[2] = run(20, 30);
     // it touches the run before it, is none, reaches the top, lies below the run before it
@@ -106,7 +100,9 @@ fn what_follows_the_first_bad_run_counts_for_nothing(rt: HostRuntime) -> Result<
 fn a_row_whose_first_run_is_bad_is_empty(rt: HostRuntime) -> Result<(), Fail> {
     let mut odd = eight();
     odd.runs[0] = run(4_294_967_295, 4_294_967_295);
-    assert!(rt; odd.is_empty() && odd.equals(&Amounts::empty()) && odd.is_within(&span(0, 0)?));
+    assert!(rt;
+        odd.is_empty() && odd.equals(&Amounts::empty()) && odd.is_within(&run_of::<Amounts>(0, 0)?)
+    );
     assert_eq!(rt; odd.least_non_member(20), Some(20));
     assert_eq!(rt; next_run(&odd, 0), None);
     Ok(())
@@ -148,22 +144,25 @@ fn steps_stop_before_leftovers(rt: HostRuntime) {
 
 #[test]
 fn eight_runs_joined_to_a_ninth(rt: HostRuntime) -> Result<(), Fail> {
-    let mut place = span(5, 9)?;
+    let mut place = run_of::<Amounts>(5, 9)?;
     // far off, and at a gap of one from one neighbour or from both
     for (low, high) in [(1000, 1000), (157, 157), (17, 18)] {
         assert_eq!(rt;
-            eight().join(&span(low, high)?, &mut place),
+            eight().join(&run_of::<Amounts>(low, high)?, &mut place),
             Err(SetRefusal::NotHeld)
         );
     }
-    assert!(rt; place.equals(&span(5, 9)?));
+    assert!(rt; place.equals(&run_of::<Amounts>(5, 9)?));
     // one that touches becomes part of its neighbour, or makes one of two
     assert_eq!(rt;
-        eight().join(&span(156, 1_999_999_999)?, &mut place),
+        eight().join(&run_of::<Amounts>(156, 1_999_999_999)?, &mut place),
         Ok(())
     );
     assert_eq!(rt; place.runs[7], run(140, 1_999_999_999));
-    assert_eq!(rt; eight().join(&span(16, 19)?, &mut place), Ok(()));
+    assert_eq!(rt;
+        eight().join(&run_of::<Amounts>(16, 19)?, &mut place),
+        Ok(())
+    );
     assert_eq!(rt; place.runs[0], run(0, 35));
     assert_eq!(rt; place.runs[7], run(1, 0));
     Ok(())
@@ -171,7 +170,7 @@ fn eight_runs_joined_to_a_ninth(rt: HostRuntime) -> Result<(), Fail> {
 
 #[test]
 fn eight_and_eight_meet_in_fifteen(rt: HostRuntime) -> Result<(), Fail> {
-    let mut place = span(5, 9)?;
+    let mut place = run_of::<Amounts>(5, 9)?;
     assert_eq!(rt;
         eight().meet(&moved(), &mut place),
         Err(SetRefusal::NotHeld)
@@ -180,17 +179,17 @@ fn eight_and_eight_meet_in_fifteen(rt: HostRuntime) -> Result<(), Fail> {
         moved().meet(&eight(), &mut place),
         Err(SetRefusal::NotHeld)
     );
-    assert!(rt; place.equals(&span(5, 9)?));
+    assert!(rt; place.equals(&run_of::<Amounts>(5, 9)?));
     // together they leave no gap
     assert_eq!(rt; eight().join(&moved(), &mut place), Ok(()));
-    assert!(rt; place.equals(&span(0, 165)?));
+    assert!(rt; place.equals(&run_of::<Amounts>(0, 165)?));
     Ok(())
 }
 
 #[test]
 fn those_below_86_meet_in_eight(rt: HostRuntime) -> Result<(), Fail> {
     let mut low = Amounts::empty();
-    assert_eq!(rt; eight().meet(&span(0, 85)?, &mut low), Ok(()));
+    assert_eq!(rt; eight().meet(&run_of::<Amounts>(0, 85)?, &mut low), Ok(()));
     let mut place = Amounts::empty();
     assert_eq!(rt; moved().meet(&low, &mut place), Ok(()));
     assert_eq!(rt; place.runs[0], run(10, 15));
@@ -201,17 +200,20 @@ fn those_below_86_meet_in_eight(rt: HostRuntime) -> Result<(), Fail> {
 
 #[test]
 fn runs_that_touch_or_overlap_become_one(rt: HostRuntime) -> Result<(), Fail> {
-    let whole = span(0, 9)?;
+    let whole = run_of::<Amounts>(0, 9)?;
     let mut place = Amounts::empty();
     for (low, high, first, last) in [(0, 4, 5, 9), (5, 9, 0, 4), (0, 7, 2, 9), (0, 9, 3, 4)] {
         assert_eq!(rt;
-            span(low, high)?.join(&span(first, last)?, &mut place),
+            run_of::<Amounts>(low, high)?.join(&run_of::<Amounts>(first, last)?, &mut place),
             Ok(())
         );
         assert_eq!(rt; place.runs, whole.runs);
     }
     // a gap of one stays
-    assert_eq!(rt; span(0, 4)?.join(&span(6, 9)?, &mut place), Ok(()));
+    assert_eq!(rt;
+        run_of::<Amounts>(0, 4)?.join(&run_of::<Amounts>(6, 9)?, &mut place),
+        Ok(())
+    );
     assert!(rt; !place.contains(5) && place.contains(6) && !place.equals(&whole));
     Ok(())
 }
@@ -219,9 +221,15 @@ fn runs_that_touch_or_overlap_become_one(rt: HostRuntime) -> Result<(), Fail> {
 #[test]
 fn runs_meet_at_their_ends(rt: HostRuntime) -> Result<(), Fail> {
     let mut place = Amounts::empty();
-    assert_eq!(rt; span(0, 4)?.meet(&span(4, 9)?, &mut place), Ok(()));
-    assert_eq!(rt; place.runs, span(4, 4)?.runs);
-    assert_eq!(rt; span(0, 4)?.meet(&span(5, 9)?, &mut place), Ok(()));
+    assert_eq!(rt;
+        run_of::<Amounts>(0, 4)?.meet(&run_of::<Amounts>(4, 9)?, &mut place),
+        Ok(())
+    );
+    assert_eq!(rt; place.runs, run_of::<Amounts>(4, 4)?.runs);
+    assert_eq!(rt;
+        run_of::<Amounts>(0, 4)?.meet(&run_of::<Amounts>(5, 9)?, &mut place),
+        Ok(())
+    );
     assert!(rt; place.is_empty());
     Ok(())
 }
@@ -232,7 +240,7 @@ fn steps_go_up_to_the_last_value(rt: HostRuntime) -> Result<(), Fail> {
     assert_eq!(rt; ends.least_member(0), None);
     assert_eq!(rt; ends.least_non_member(0), Some(0));
     assert_eq!(rt;
-        span(0, 0)?.join(&span(1_999_999_998, 1_999_999_999)?, &mut ends),
+        run_of::<Amounts>(0, 0)?.join(&run_of::<Amounts>(1_999_999_998, 1_999_999_999)?, &mut ends),
         Ok(())
     );
     for (from, member, other) in [

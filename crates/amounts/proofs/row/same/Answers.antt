@@ -1,20 +1,21 @@
-use Rattle.std.proofs.Common.{drop, sym, ap, ◌∙◌}
-use Rattle.amounts.specs.Rows.{inside, places}
-use Rattle.amounts.specs.Walks.{rest}
-use Rattle.amounts.specs.RowsLemmas.{ascends}
+use Rattle.std.proofs.Common.{sym, ap, ◌∙◌}
+use Rattle.amounts.specs.Rows.{inside}
+use Rattle.amounts.specs.Walks.{ahead}
 use Rattle.amounts.specs.Runs.{same_runs}
-use Rattle.amounts.specs.Limits.{most_runs}
+use Rattle.amounts.proofs.Same.{compared}
+use Rattle.amounts.proofs.Walks.{ends_decide, rising}
 use Rattle.amounts.proofs.row.same.Goals as goal
 
-pub loop-mine-init : goal.loop-mine-init
-loop-mine-init c =
-    let mine = c.first-mine.ensures in
-    let theirs = c.first-theirs.ensures in
-    let top = c.args.top in
-    let row = c.args.row.now in
-    let other = c.args.other.now in (
-      mine.ascending,
-      theirs.ascending,
-      λ e. mine.ahead ∙ same_runs top top 0 (rest top most_runs row 0 0) (rest top most_runs other 0 0) (ascends top 0 (drop 0 (places most_runs row))) (ascends top 0 (drop 0 (places most_runs other))) e ∙ sym theirs.ahead,
-      λ e. ap inside (sym mine.ahead ∙ e ∙ theirs.ahead),
-    )
+pub returns : goal.returns
+returns c =
+    let s = c.of.result in
+    let t = c.of-2.result in
+    let mine = ap inside c.of.ensures.ahead in
+    let theirs = ap inside c.of-2.ensures.ahead in
+    let same = compared ahead _ ends_decide s t c.eq.result c.eq.ensures.ran in
+    record {
+      decides = (
+        λ h. sym mine ∙ ap inside (same.0 h) ∙ theirs,
+        λ h. same.1 (same_runs s.top t.top 0 (ahead s) (ahead t) (rising s) (rising t) (mine ∙ h ∙ sym theirs)),
+      );
+    }

@@ -1,44 +1,44 @@
-use Rattle.std.proofs.Common.{List, ◌∷◌, sym, ap, ◌∙◌, rules}
-use Rattle.sets.specs.declared.Run.{Run}
-use Rattle.amounts.specs.Walks.{from_run, values}
-use Rattle.amounts.proofs.Walks.{nothing_covers, cannot_cover, pass, unpass}
-use Rattle.amounts.specs.Limits.{most_runs}
+use Rattle.std.proofs.Common.{sym, refl, ◌∙◌, rules}
+use Rattle.std.proofs.lemmas.Bool.{false≢true}
+use Rattle.amounts.specs.Walks.{ahead}
+use Rattle.amounts.proofs.Walks.{within_by, none_covers, none_left, cannot_cover, pass_mine, pass_theirs}
 use Rattle.amounts.proofs.row.within.Goals as goal
 
-pub returns-in_default-run : goal.returns-in_default-run
-returns-in_default-run c =
-    let top = c.args.top in
-    let row = c.args.row.now in
-    let other = c.args.other.now in
-    let at = c.loop-mine in
-    record {
-      decides =
-          nothing_covers (values top most_runs row) (values top most_runs other) top top _ _ at.invariant.0 at.invariant.1 at.invariant.2 c.in-Some.run' _ (ap (from_run top most_runs row at.mine.next) c.in-Some.is) (ap (from_run top most_runs other at.theirs.next) c.in_default-run.is);
-    }
+pub loop-run-init : goal.loop-run-init
+loop-run-init c = within_by _ _ _ _ c.of-mine.ensures.ahead c.of-theirs.ensures.ahead
+
+pub returns-in_default-peek : goal.returns-in_default-peek
+returns-in_default-peek c =
+    let at = c.loop-run in
+    let alone = none_covers at.mine at.theirs _ (sym c.peek.ensures.first ∙ c.in-Some.is) (sym c.peek-in-Some.ensures.first ∙ c.in_default-peek.is) in
+    record { decides = (λ f. absurd (false≢true f), λ w. absurd (alone (at.invariant.0 w))) }
+
+pub loop-run-preserved-then-covers : goal.loop-run-preserved-then-covers
+loop-run-preserved-then-covers c =
+    let at = c.loop-run in
+    let turn =
+    pass_mine at.mine at.theirs _ (sym c.peek.ensures.first ∙ c.in-Some.is) _ (sym c.peek-in-Some.ensures.first ∙ c.in-Some-peek.is) _ c.next.new.self (sym c.covers.ensures.value ∙ c.if-covers.true) c.next.ensures.steps in
+    (λ w. turn.0 (at.invariant.0 w), λ w. at.invariant.1 (turn.1 w))
+
+pub loop-run-preserved : goal.loop-run-preserved
+loop-run-preserved c =
+    let at = c.loop-run in
+    let turn =
+    pass_theirs at.mine at.theirs _ (sym c.peek.ensures.first ∙ c.in-Some.is) _ (sym c.peek-in-Some.ensures.first ∙ c.in-Some-peek.is) _ c.next-then-cover-run.new.self c.if-cover-run.true c.next-then-cover-run.ensures.steps in
+    (λ w. turn.0 (at.invariant.0 w), λ w. at.invariant.1 (turn.1 w))
 
 pub returns-else-cover-run : goal.returns-else-cover-run
 returns-else-cover-run c =
-    let top = c.args.top in
-    let row = c.args.row.now in
-    let other = c.args.other.now in
-    let at = c.loop-mine in
-    record {
-      decides =
-          cannot_cover (values top most_runs row) (values top most_runs other) top top _ _ at.invariant.0 at.invariant.1 at.invariant.2 c.in-Some.run' _ (ap (from_run top most_runs row at.mine.next) c.in-Some.is)
-          c.in-Some-run.cover _ (ap (from_run top most_runs other at.theirs.next) c.in-Some-run.is) (sym c.covers.ensures.value ∙ c.if-covers.false) (search rules);
-    }
+    let at = c.loop-run in
+    let out =
+    cannot_cover at.mine at.theirs _ (sym c.peek.ensures.first ∙ c.in-Some.is) _ (sym c.peek-in-Some.ensures.first ∙ c.in-Some-peek.is) (sym c.covers.ensures.value ∙ c.if-covers.false) (search rules) in
+    record { decides = (λ f. absurd (false≢true f), λ w. absurd (out (at.invariant.0 w))) }
 
-pub loop-mine-preserved : goal.loop-mine-preserved
-loop-mine-preserved c =
-    let top = c.args.top in
-    let row = c.args.row.now in
-    let other = c.args.other.now in
-    let at = c.loop-mine in
-    let mine = ap (from_run top most_runs row at.mine.next) c.in-Some.is in
-    let theirs =
-    ap (from_run top most_runs other at.theirs.next) c.in-Some-run.is ∙ ap (λ (xs : List Run). c.in-Some-run.cover ∷ xs) (sym c.after-theirs.ensures.ahead) in (
-      at.invariant.0,
-      search rules,
-      pass (values top most_runs row) (values top most_runs other) top top _ _ at.invariant.0 at.invariant.1 at.invariant.2 c.in-Some.run' _ mine c.in-Some-run.cover _ theirs (search rules),
-      λ w. at.invariant.3 (unpass (values top most_runs row) (values top most_runs other) top top _ _ at.invariant.0 at.invariant.1 at.invariant.2 c.in-Some.run' _ mine c.in-Some-run.cover _ theirs w),
-    )
+pub returns : goal.returns
+returns c =
+    record {
+      decides = (
+        λ _. c.loop-run.invariant.1 (none_left (ahead c.loop-run.mine) _ (sym c.peek.ensures.first ∙ c.in_default.is)),
+        λ _. refl,
+      );
+    }

@@ -1,15 +1,13 @@
-use Rattle.std.proofs.Common.{◌+◌, length}
+use Rattle.std.proofs.Common.{◌+◌, ◌↔◌, length}
 use Rattle.sets.specs.Sets.{Within}
-use Rattle.amounts.specs.Rows.{inside, Ascending}
-use Rattle.amounts.specs.Walks.{ahead, values}
 use Rattle.amounts.specs.Limits.{most_runs}
+use Rattle.amounts.specs.Rows.{inside}
+use Rattle.amounts.specs.Walks.{ahead, values}
 use Rattle.amounts.proofs.row.within.Given as goal
 
-abbrev pub invariant-loop-mine : goal.invariant-loop-mine
-invariant-loop-mine l =
-    Ascending l.top 0 (ahead l.top most_runs l.row l.mine) × Ascending l.top 0 (ahead l.top most_runs l.other l.theirs)
-    × (Within (values l.top most_runs l.row) (values l.top most_runs l.other) → Within (inside (ahead l.top most_runs l.row l.mine)) (inside (ahead l.top most_runs l.other l.theirs)))
-    × (Within (inside (ahead l.top most_runs l.row l.mine)) (inside (ahead l.top most_runs l.other l.theirs)) → Within (values l.top most_runs l.row) (values l.top most_runs l.other))
+abbrev pub invariant-loop-run : goal.invariant-loop-run
+invariant-loop-run l =
+    Within (values l.top most_runs l.row) (values l.top most_runs l.other) ↔ Within (inside (ahead l.mine)) (inside (ahead l.theirs))
 
-abbrev pub decreases-loop-mine : goal.decreases-loop-mine
-decreases-loop-mine l = length (ahead l.top most_runs l.row l.mine) + length (ahead l.top most_runs l.other l.theirs)
+abbrev pub decreases-loop-run : goal.decreases-loop-run
+decreases-loop-run l = length (ahead l.mine) + length (ahead l.theirs)
