@@ -66,6 +66,8 @@ impl ValueSet for Amounts {
 
     ghost holds = { held };
 
+    ghost tidy = { λ s. IsTidy s };
+
     ghost top_fits = { Prim.search rules };
 
     ghost below_top = { λ s v e. below amounts_top (places most_runs s.runs) v e };
@@ -76,17 +78,11 @@ impl ValueSet for Amounts {
 
     ghost runs_held = { λ low high p q. run_held amounts_top 7 low high p q };
 
-    fn empty() -> Amounts
-        ensures value { members_of result ≡ nothing }
-        ensures tidy { IsTidy result }
-    {
+    fn empty() -> Amounts {
         Amounts::of_none()
     }
 
-    fn run(low: u32, high: u32, place: &mut Amounts) -> Result<(), SetRefusal>
-        ensures placed { RunPlaced members_of amounts_top low high place.old place.new result }
-        ensures tidy { OnOk result (IsTidy place.new) }
-    {
+    fn run(low: u32, high: u32, place: &mut Amounts) -> Result<(), SetRefusal> {
         if low > high || high >= TOP {
             return Err(SetRefusal::NotARun);
         }
@@ -110,19 +106,13 @@ impl ValueSet for Amounts {
         row::within(&self.runs, &other.runs, TOP)
     }
 
-    fn meet(&self, other: &Amounts, place: &mut Amounts) -> Result<(), SetRefusal>
-        ensures placed { Placed members_of held (met (members_of self.now) (members_of other.now)) place.old place.new result }
-        ensures tidy { OnOk result (IsTidy place.new) }
-    {
+    fn meet(&self, other: &Amounts, place: &mut Amounts) -> Result<(), SetRefusal> {
         let runs = combine::met(&self.runs, &other.runs, TOP)?;
         *place = Amounts { runs };
         Ok(())
     }
 
-    fn join(&self, other: &Amounts, place: &mut Amounts) -> Result<(), SetRefusal>
-        ensures placed { Placed members_of held (joined (members_of self.now) (members_of other.now)) place.old place.new result }
-        ensures tidy { OnOk result (IsTidy place.new) }
-    {
+    fn join(&self, other: &Amounts, place: &mut Amounts) -> Result<(), SetRefusal> {
         let runs = combine::joined(&self.runs, &other.runs, TOP)?;
         *place = Amounts { runs };
         Ok(())

@@ -1,7 +1,7 @@
 //! Sets of values: the traits that generic code sees, and codes.
 #![tactic(auto)]
 
-ghost use Rattle.std.specs.Prelude.{◌≡◌, ℕ, ◌<◌, ◌≤◌, Bool, true, false, ◌↔◌, IsTrue, ◌≢◌};
+ghost use Rattle.std.specs.Prelude.{◌≡◌, ℕ, ◌<◌, ◌≤◌, Bool, true, false, ◌↔◌, IfOk, IsTrue, OnOk, ⊤, ◌≢◌};
 ghost use Rattle.sets.specs.Placing.{Placed, RunMade, RunPlaced};
 ghost use Rattle.sets.specs.Refusals.{number_of};
 ghost use Rattle.sets.specs.Sets.{between, joined, met, nothing, others, Values, Within};
@@ -50,13 +50,18 @@ pub trait ValueSet: Copy {
     // the hold rule: which sets of values below the top the kind can hold
     ghost holds: { (ℕ → Bool) → Bool };
 
+    // the form of the values that calls make, where one set may lie in several values
+    ghost tidy: { Self → Type 0 } = { λ _. ⊤ };
+
     /// The set with no member.
     fn empty() -> Self
-        ensures value { has result ≡ nothing };
+        ensures value { has result ≡ nothing }
+        ensures tidy { tidy result };
 
     /// Puts the values from `low` to `high` into the place.
     fn run(low: u32, high: u32, place: &mut Self) -> Result<(), SetRefusal>
-        ensures placed { RunPlaced has top low high place.old place.new result };
+        ensures placed { RunPlaced has top low high place.old place.new result }
+        ensures tidy { OnOk result (tidy place.new) };
 
     /// Whether `v` is a member.
     fn contains(&self, v: u32) -> bool
@@ -67,8 +72,8 @@ pub trait ValueSet: Copy {
         ensures decides { IsTrue result ↔ (has self.now ≡ nothing) };
 
     /// Whether both have the same members.
-    // No `PartialEq`: its laws are asked of every record of the type, also of words past 64 bits that
-    // no value holds, and a derived `==` tells those apart where their members are the same.
+    // No `PartialEq` (tried): a law that `==` goes by the members is owed for every record, also for
+    // words past 64 bits, which no value is; a derived `==` tells some of those apart.
     fn equals(&self, other: &Self) -> bool
         ensures decides { IsTrue result ↔ (has self.now ≡ has other.now) };
 
@@ -78,11 +83,13 @@ pub trait ValueSet: Copy {
 
     /// Puts the common members into the place.
     fn meet(&self, other: &Self, place: &mut Self) -> Result<(), SetRefusal>
-        ensures placed { Placed has holds (met (has self.now) (has other.now)) place.old place.new result };
+        ensures placed { Placed has holds (met (has self.now) (has other.now)) place.old place.new result }
+        ensures tidy { OnOk result (tidy place.new) };
 
     /// Puts the members of either into the place.
     fn join(&self, other: &Self, place: &mut Self) -> Result<(), SetRefusal>
-        ensures placed { Placed has holds (joined (has self.now) (has other.now)) place.old place.new result };
+        ensures placed { Placed has holds (joined (has self.now) (has other.now)) place.old place.new result }
+        ensures tidy { OnOk result (tidy place.new) };
 
     ghost top_fits: { top ≤ 4294967295 };
 
@@ -100,16 +107,17 @@ pub trait ValueSet: Copy {
 pub trait Stepping: ValueSet {
     /// The least member from `from` on.
     fn least_member(&self, from: u32) -> Option<u32>
-        ensures least { Least (Self.ValueSet.has self.now) from result };
+        ensures least { Least (Self.has self.now) from result };
 
     /// The least value from `from` on that is no member.
     fn least_non_member(&self, from: u32) -> Option<u32>
-        ensures least { Least (others (Self.ValueSet.has self.now)) from result };
+        ensures least { Least (others (Self.has self.now)) from result };
 }
 
 /// The set of the values from `low` to `high`, where the caller has no place of its own to lend.
 pub fn run_of<K: ValueSet>(low: u32, high: u32) -> Result<K, SetRefusal>
-    ensures made { RunMade K.ValueSet.has K.ValueSet.top low high result }
+    ensures made { RunMade K.has K.top low high result }
+    ensures tidy { IfOk result K.tidy }
 {
     let mut set = K::empty();
     K::run(low, high, &mut set)?;
@@ -119,7 +127,7 @@ pub fn run_of<K: ValueSet>(low: u32, high: u32) -> Result<K, SetRefusal>
 /// The first run of members from `from` on, of a set of any stepping kind. It ends where the next
 /// value is no member, and begins at `from` where that is one.
 pub fn next_run<K: Stepping>(set: &K, from: u32) -> Option<Run>
-    ensures first { FirstRun (K.ValueSet.has set.now) from result }
+    ensures first { FirstRun (K.has set.now) from result }
 {
     let low = set.least_member(from)?;
     let after = set.least_non_member(low)?;
@@ -134,7 +142,7 @@ pub const EMPTY_ANSWER: u32 = 4_294_967_295;
 
 /// Whether an empty answer is a member: never, of whatever kind the set is.
 pub fn has_empty_answer<K: ValueSet>(set: &K) -> bool
-    ensures value { result ≡ K.ValueSet.has set.now 4294967295 }
+    ensures value { result ≡ K.has set.now 4294967295 }
     ensures never { result ≡ false }
 {
     set.contains(EMPTY_ANSWER)
@@ -143,5 +151,5 @@ pub fn has_empty_answer<K: ValueSet>(set: &K) -> bool
 /// A set that the kind cannot hold has no value: so meet and join are refused only where there is
 /// nothing that they could have put into the place.
 pub fn unheld_has_no_value<K: ValueSet>(set: &K)
-    ensures theorem { (A : Values) → K.ValueSet.holds A ≡ false → K.ValueSet.has set.now ≢ A }
+    ensures theorem { (A : Values) → K.holds A ≡ false → K.has set.now ≢ A }
 {}
