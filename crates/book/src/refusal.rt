@@ -1,80 +1,77 @@
 //! The refusals of the whole editor, each with the number by which users know it.
 
-ghost use Rattle.std.specs.Prelude.{◌≡◌, Decides, nat_eq};
-ghost use Rattle.std.specs.Ordering.{on};
+ghost use Rattle.std.specs.Prelude.{◌≡◌, ◌↔◌, IsTrue};
 ghost use Rattle.book.specs.Refusals.{EachNumberOnce, from_sets, number_of};
-ghost use Rattle.std.specs.Cmp.Rules.{comparing};
-ghost use Rattle.std.proofs.Common.{rules};
-ghost use Rattle.std.specs.Cmp as Keys;
+ghost use Rattle.book.specs.declared.refusal.Refusal.{Refusal};
 
 use sets::SetRefusal;
 
 /// Why a call is refused: what is wrong, and what to do about it.
-#[derive(Clone, Copy, Debug)]
+#[derive(Clone, Copy, PartialEq, Eq, Debug)]
 pub enum Refusal {
     /// The text of a book is empty, has over 32,768 bytes or does not end in a line end: send the
     /// whole file.
-    BadText,
+    BadText = 1,
     /// A line has not the form of a field line or an edit line: write it anew.
-    BadLine,
+    BadLine = 2,
     /// A field line after an edit line, a 25th field line, or an edit line before any field line:
     /// reorder the lines.
-    MisplacedLine,
+    MisplacedLine = 3,
     /// A field's weight is not 1 to 100: choose another.
-    BadWeight,
+    BadWeight = 4,
     /// A name is declared twice, is not declared, or stands twice in an edit: mend the name.
-    WrongName,
+    WrongName = 5,
     /// A part of a set is no run below the top of its kind, or is not above the part before it:
     /// mend its bounds.
-    NotARun,
+    NotARun = 6,
     /// The kind cannot hold a set as its parts are joined: split the set, or take another kind.
-    PartsNotHeld,
+    PartsNotHeld = 7,
     /// A set of an edit is not within the field's domain: narrow the set, or widen the domain.
-    OutsideDomain,
+    OutsideDomain = 8,
     /// A table is too short for the book, or it has over 255 edits: lend longer tables, or split
     /// the book.
-    BookTooLarge,
+    BookTooLarge = 9,
     /// The numbers of fields or edits, the tables' lengths or a weight are not those of a book,
     /// or a policy's numbers are out of range: check the sizes passed.
-    BadMeasure,
+    BadMeasure = 10,
     /// The edits leave no sound record: one of them is wrong.
-    Contradiction,
+    Contradiction = 11,
     /// The edit list is at capacity: lend a longer table, up to 256 rows.
-    ListFull,
+    ListFull = 12,
     /// The kind cannot hold the result of a meet or a join: take simpler sets, or another kind.
-    NotHeld,
+    NotHeld = 13,
     /// A try is due and the budget is used up: grant a larger budget.
-    BudgetSpent,
+    BudgetSpent = 14,
     /// The number of fields is not 1 to 24.
-    BadFieldCount,
+    BadFieldCount = 15,
     /// An imputed sheet is on the bench: release or withdraw it first.
-    SheetWaiting,
+    SheetWaiting = 16,
     /// The deck has no place for another donor: go on with the donors it has.
-    DeckFull,
+    DeckFull = 17,
     /// The record offered as a donor has a wrong number of values or is not sound: do not admit
     /// it.
-    UnsoundDonor,
+    UnsoundDonor = 18,
     /// A sheet is on the bench: release or withdraw it first.
-    BenchTaken,
+    BenchTaken = 19,
     /// The number of values is not the number of fields, or the bench is not open: pass a whole
     /// record.
-    WrongValueCount,
+    WrongValueCount = 20,
     /// 60,000 sheets have been entered: open a new bench.
-    TooManyEntries,
+    TooManyEntries = 21,
     /// The bench has no sheet, or one of another number, stage or findings: pass the sheet that
     /// is on it.
-    OtherSheet,
+    OtherSheet = 22,
     /// A failed edit enters no field, so no change can mend the record: derive the book.
-    NoFieldToChange,
+    NoFieldToChange = 23,
     /// Filling finds no value for a changed field: derive the book.
-    NoValueLeft,
+    NoValueLeft = 24,
     /// Fewer places are lent than there are fields: lend one for each.
-    TooFewPlaces,
+    TooFewPlaces = 25,
     /// A sheet line has not one part for each field, each a number or empty: enter it anew.
-    BadSheetLine,
+    BadSheetLine = 26,
     /// The values are not 1 to 24 in number, or the bytes lent are too few for the line: lend
     /// more.
-    NoRoomForLine,
+    NoRoomForLine = 27,
 }
 
 impl Refusal {
@@ -82,60 +79,16 @@ impl Refusal {
     pub fn number(self) -> u8
         ensures value { result ≡ number_of self }
     {
-        match self {
-            Refusal::BadText => 1,
-            Refusal::BadLine => 2,
-            Refusal::MisplacedLine => 3,
-            Refusal::BadWeight => 4,
-            Refusal::WrongName => 5,
-            Refusal::NotARun => 6,
-            Refusal::PartsNotHeld => 7,
-            Refusal::OutsideDomain => 8,
-            Refusal::BookTooLarge => 9,
-            Refusal::BadMeasure => 10,
-            Refusal::Contradiction => 11,
-            Refusal::ListFull => 12,
-            Refusal::NotHeld => 13,
-            Refusal::BudgetSpent => 14,
-            Refusal::BadFieldCount => 15,
-            Refusal::SheetWaiting => 16,
-            Refusal::DeckFull => 17,
-            Refusal::UnsoundDonor => 18,
-            Refusal::BenchTaken => 19,
-            Refusal::WrongValueCount => 20,
-            Refusal::TooManyEntries => 21,
-            Refusal::OtherSheet => 22,
-            Refusal::NoFieldToChange => 23,
-            Refusal::NoValueLeft => 24,
-            Refusal::TooFewPlaces => 25,
-            Refusal::BadSheetLine => 26,
-            Refusal::NoRoomForLine => 27,
-        }
+        self as u8
     }
 }
 
-/// The numbers run from 1 to 27 and no two refusals share one.
+/// The numbers run from 1 to 27 and no two refusals share one; and refusals compare equal exactly
+/// where they are the same.
 pub fn each_number_once()
     ensures theorem { EachNumberOnce }
+    ensures equal { (r s : Refusal) → IsTrue (⟦<Refusal as PartialEq>⟧.eq r s) ↔ (r ≡ s) }
 {}
-
-/// Refusals are told apart by their numbers.
-impl PartialEq for Refusal {
-    ghost eq = { on number_of nat_eq };
-
-    ghost laws = { Keys.partial_equiv_from_equiv (Prim.search (comparing, rules)) };
-
-    fn eq(&self, other: &Refusal) -> bool
-        ensures value { result ≡ (on number_of nat_eq) self.now other.now }
-        ensures decides { Decides result (self.now ≡ other.now) }
-    {
-        self.number() == other.number()
-    }
-}
-
-impl Eq for Refusal {
-    ghost laws = { Prim.search (comparing, rules) };
-}
 
 /// A set that is not made is refused under the same number.
 impl From<SetRefusal> for Refusal {

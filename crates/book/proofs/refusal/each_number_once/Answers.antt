@@ -1,5 +1,5 @@
 use Rattle.book.proofs.Numbers.{each_number_once}
 use Rattle.book.proofs.refusal.each_number_once.Goals as goal
 
-pub returns : goal.returns
-returns c = record { theorem = each_number_once }
+pub returns-clause-theorem : goal.returns-clause-theorem
+returns-clause-theorem c = each_number_once
