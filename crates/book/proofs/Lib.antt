@@ -1,3 +1,4 @@
 mod Flags
 mod Numbers
+mod Places
 mod Rows

@@ -1,36 +1,44 @@
 -- What is read from a book's tables, in the words of editing.
-use Rattle.std.proofs.Common.{◌≡◌, ℕ, ◌+◌, ◌-◌, ◌*◌, ◌^◌, ◌<◌, ◌≤◌, Bool, true, false, eqb, List, length, get_or, Decides, sym, ap, ◌∙◌, subst, mul_comm, arith, pow_pos}
+use Rattle.std.proofs.Common.{◌≡◌, ℕ, ◌+◌, ◌-◌, ◌*◌, ◌^◌, ◌<◌, ◌≤◌, ◌↔◌, true, false, IsTrue, eqb, List, length, get_or, drop, sym, ap, ◌∙◌, subst, mul_comm, arith, pow_pos}
 use Rattle.std.proofs.lemmas.Nat.{mul-add-lt}
 use Rattle.std.proofs.lemmas.Bool.{eqb-true, eq-eqb}
+use Rattle.std.proofs.lemmas.List.{get_or-take, get_or-drop, length-take-le, length-drop}
 use Rattle.sets.specs.Sets.{Values, ◌∈◌, joined, single}
 use Rattle.sets.specs.Word.{bit}
 use Rattle.sets.proofs.Words.{same_words, word_none}
 use Rattle.editing.specs.Edits.{Edit, Record, Enters, Fails, outside}
 use Rattle.editing.specs.Tables.{reading}
 use Rattle.editing.proofs.Outside.{inside_if_none, none_if_inside, outside_in, outside_out}
-use Rattle.editing.proofs.Tables.{among_row, read_domain, read_row, row_among}
+use Rattle.editing.proofs.Tables.{among_row, read_row, row_among}
 use Rattle.book.specs.declared.Book.{Book}
-use Rattle.book.specs.Books.{IsBook, domains_of, edit_of, FailsEdit, InsideDomains, outside_of, PassesAll, SpeaksOf}
+use Rattle.book.specs.Books.{IsBook, domains_of, edit_of, FailsEdit, InsideDomains, outside_of, PassesAll, row_of, SpeaksOf}
 
--- a place within a row is a place within the table
-pub place_within : (n m j i sets : ℕ) → i < n → j ≤ m → (m + 1) * n ≤ sets → j * n + i < sets
-place_within n m j i sets h le fits = omega (arith, mul-add-lt j n i (m + 1) (omega arith) h, mul_comm n (m + 1))
+-- a row ends within the table
+row_within : (n m j sets : ℕ) → 1 ≤ n → j ≤ m → (m + 1) * n ≤ sets → j * n + n ≤ sets
+row_within n m j sets some le fits = omega (arith, mul-add-lt j n (n - 1) (m + 1) (omega arith) (omega arith), mul_comm n (m + 1))
 
-module _ {K : Type 0} (has : K → Values) (b : Book K) (ready : IsBook b) (j i : ℕ) (le : j ≤ b.m) (h : i < b.n) where
-  pub in_table : j * b.n + i < length b.sets.now
-  in_table = place_within b.n b.m j i (length b.sets.now) h le ready.sized.all_sets
+module _ {K : Type 0} (has : K → Values) (b : Book K) (measured : IsBook b) where
+  pub length_row : (j : ℕ) → j ≤ b.m → length (row_of b j) ≡ b.n
+  length_row j le =
+      let within = row_within b.n b.m j (length b.sets.now) measured.sized.some_field le measured.sized.all_sets in
+      omega (arith, within, length-take-le (j * b.n + b.n - j * b.n) (drop (j * b.n) b.sets.now) (omega (arith, length-drop (j * b.n) b.sets.now, within)))
+
+  -- a set that was read in a row is that of the row's edit
+  pub read_edit : (j i : ℕ) (s : K) → j ≤ b.m → i < b.n → s ≡ get_or (row_of b j) i s → edit_of has b j i ≡ has s
+  read_edit j i s le h is =
+      let within = row_within b.n b.m j (length b.sets.now) measured.sized.some_field le measured.sized.all_sets in
+      let there = get_or-take (j * b.n + b.n - j * b.n) (drop (j * b.n) b.sets.now) i s (omega arith) in
+      read_row has b.sets.now b.n j i s h (omega (arith, within)) (is ∙ there ∙ get_or-drop (j * b.n) b.sets.now i s)
 
   -- what was decided of the sets that were read holds of the edit with the number j
-  pub speaks : (v : ℕ) (s d : K) → s ≡ get_or b.sets.now (j * b.n + i) s → d ≡ get_or b.sets.now i d → (r : Bool)
-      → Decides r (SpeaksOf (has s) (has d) v) → Decides r (Enters (domains_of has b) (edit_of has b j) i → v ∈ edit_of has b j i)
-  speaks v s d s_is d_is r decides =
-      let k = in_table in
-      let there = read_row has b.sets.now b.n j i s h k s_is in
-      let here = read_domain has b.sets.now b.n i d h (omega arith) d_is in
-      subst (λ (A : Values). Decides r (SpeaksOf A (domains_of has b i) v)) (sym there)
-      (subst (λ (B : Values). Decides r (SpeaksOf (has s) B v)) (sym here) decides)
+  pub speaks : (j i v : ℕ) (s d : K) → j ≤ b.m → i < b.n → s ≡ get_or (row_of b j) i s → d ≡ get_or (row_of b 0) i d
+      → SpeaksOf (has s) (has d) v ↔ (Enters (domains_of has b) (edit_of has b j) i → v ∈ edit_of has b j i)
+  speaks j i v s d le h s_is d_is =
+      let there = read_edit j i s le h s_is in
+      let here = read_edit 0 i d (omega arith) h d_is in
+      rw (there, here) (λ x. x, λ x. x)
 
-module _ {K : Type 0} (has : K → Values) (b : Book K) (ready : IsBook b) (values : List ℕ) (i : ℕ) (h : i < b.n) (d : K) (d_is : d ≡ get_or b.sets.now i d) where
+module _ {K : Type 0} (has : K → Values) (b : Book K) (measured : IsBook b) (values : List ℕ) (i : ℕ) (h : i < b.n) (d : K) (d_is : d ≡ get_or (row_of b 0) i d) where
   abbrev D : Edit
   D = domains_of has b
 
@@ -39,9 +47,7 @@ module _ {K : Type 0} (has : K → Values) (b : Book K) (ready : IsBook b) (valu
 
   -- whether the value of the field i is in its domain is what the set that was read there says
   read_inside : D i (x i) ≡ has d (x i)
-  read_inside =
-      let k = in_table has b ready 0 i (omega arith) h in
-      ap (λ (A : Values). A (x i)) (read_domain has b.sets.now b.n i d h (omega arith) d_is)
+  read_inside = ap (λ (A : Values). A (x i)) (read_edit has b measured 0 i d (omega arith) h d_is)
 
   -- so the fields found outside are those before i, with i or without
   pub found_outside : (mask more : ℕ) → bit mask ≡ outside i D x → false ≡ has d (x i) → bit more ≡ joined (bit mask) (single i) → bit more ≡ outside (i + 1) D x
@@ -67,7 +73,7 @@ numbered_passes has b values all a l fails =
 
 -- a word for the fields outside is 0 just where the record lies within the domains
 pub decides_inside : {K : Type 0} (has : K → Values) (b : Book K) (values : List ℕ) (mask : ℕ) → mask < 2 ^ 64
-    → bit mask ≡ outside_of has b values → Decides (eqb mask 0) (InsideDomains has b values)
+    → bit mask ≡ outside_of has b values → IsTrue (eqb mask 0) ↔ InsideDomains has b values
 decides_inside has b values mask fits is = (
   λ t. inside_if_none (domains_of has b) (reading values) b.n (sym is ∙ ap bit (eqb-true mask 0 t) ∙ word_none),
   λ inside. eq-eqb mask 0 (same_words mask 0 fits (pow_pos 64) (is ∙ none_if_inside (domains_of has b) (reading values) b.n inside ∙ sym word_none)),

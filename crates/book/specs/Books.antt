@@ -1,5 +1,5 @@
 -- A book's tables, as the definitions of editing read them.
-use Rattle.std.specs.Prelude.{◌≡◌, ℕ, List, length}
+use Rattle.std.specs.Prelude.{◌≡◌, ℕ, ◌+◌, ◌*◌, List, length, slice_range}
 use Rattle.sets.specs.Sets.{Values, ◌∈◌}
 use Rattle.editing.specs.Edits.{Edit, ◌among◌, Fails, Inside, Sound, outside}
 use Rattle.editing.specs.Tables.{tests, row, domains, edits, reading}
@@ -18,6 +18,10 @@ Whole b values = length values ≡ b.n
 pub record Ready {K : Type 0} (b : Book K) (values : List ℕ) : Type 0 where
   pub book : IsBook b
   pub whole : Whole b values
+
+-- Row j of the book's table, with a set for each field.
+abbrev pub row_of : {K : Type 0} → Book K → ℕ → List K
+row_of b j = slice_range b.sets.now (j * b.n) (j * b.n + b.n)
 
 -- The value is one that an edit with this set speaks of: in the set, where that differs from the domain.
 abbrev pub SpeaksOf : Values → Values → ℕ → Type 0

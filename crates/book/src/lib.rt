@@ -1,7 +1,7 @@
 //! The book of a survey: its refusals, its measure, and the questions asked of a record.
 #![tactic(auto)]
 
-ghost use Rattle.std.specs.Prelude.{◌≡◌, ℕ, ◌+◌, ◌*◌, ◌<◌, ◌≤◌, length, Decides};
+ghost use Rattle.std.specs.Prelude.{◌≤◌, ◌↔◌, IsTrue, length};
 ghost use Rattle.book.specs.Answers.{Measuring};
 ghost use Rattle.book.specs.Books.{IsBook};
 ghost use Rattle.book.specs.Measure.{most_edits, most_fields, Sized, Weighed};
@@ -11,6 +11,7 @@ use refusal::Refusal;
 pub mod mask;
 pub mod message;
 pub mod questions;
+mod record;
 pub mod refusal;
 
 /// The most fields of a book; a mask of 32 bits has one for each.
@@ -40,7 +41,7 @@ pub struct Book<'a, K> {
 impl<K> Book<'_, K> {
     // Whether the sizes fit one another.
     fn is_sized(&self) -> bool
-        ensures decides { Decides result (Sized most_fields most_edits self.now.n self.now.m (length self.now.sets.now) (length self.now.weights.now)) }
+        ensures decides { IsTrue result ↔ Sized most_fields most_edits self.now.n self.now.m (length self.now.sets.now) (length self.now.weights.now) }
     {
         1 <= self.n
             && self.n <= MOST_FIELDS
@@ -52,15 +53,11 @@ impl<K> Book<'_, K> {
     // Whether the weight of each field is in its range.
     fn is_weighed(&self) -> bool
         requires { self.now.n ≤ length self.now.weights.now }
-        ensures decides { Decides result (Weighed self.now.n self.now.weights.now) }
+        ensures decides { IsTrue result ↔ Weighed self.now.n self.now.weights.now }
     {
-        let weights = self.weights;
-        for i in 0..self.n {
-            if weights[i] < 1 || weights[i] > MOST_WEIGHT {
-                return false;
-            }
-        }
-        true
+        self.weights[..self.n]
+            .iter()
+            .all(|weight| (1..=MOST_WEIGHT).contains(weight))
     }
 
     /// Takes the book's measure: whether the numbers of fields and edits are in range, the tables

@@ -1,9 +1,0 @@
-use Rattle.std.proofs.Common.{◌≡◌}
-use Rattle.sets.specs.Word.{bit}
-use Rattle.editing.specs.Edits.{outside}
-use Rattle.editing.specs.Tables.{reading}
-use Rattle.book.specs.Books.{domains_of}
-use Rattle.book.proofs.Book.outside_mask.Given as goal
-
-abbrev pub invariant-loop-i : goal.invariant-loop-i
-invariant-loop-i g l = bit l.mask ≡ outside l.i (domains_of g.K.ValueSet.has l.self) (reading l.values)
