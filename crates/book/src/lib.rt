@@ -41,7 +41,9 @@ pub struct Book<'a, K> {
 impl<K> Book<'_, K> {
     // Whether the sizes fit one another.
     fn is_sized(&self) -> bool
-        ensures decides { IsTrue result ↔ Sized most_fields most_edits self.now.n self.now.m (length self.now.sets.now) (length self.now.weights.now) }
+        ensures decides { let sets = length self.now.sets.now in
+            let weights = length self.now.weights.now in
+            IsTrue result ↔ Sized most_fields most_edits self.now.n self.now.m sets weights }
     {
         1 <= self.n
             && self.n <= MOST_FIELDS

@@ -14,7 +14,8 @@ use sets::ValueSet;
 impl<K: ValueSet> Book<'_, K> {
     /// Which fields of the record are outside their domains: a mask with bit i for field i.
     pub fn outside_domains(&self, values: &[u32]) -> Result<u32, Refusal>
-        ensures answer { Answered self.now values.now (λ mask. bit mask ≡ outside_of K.ValueSet.has self.now values.now) result }
+        ensures answer { let outside = outside_of K.has self.now values.now in
+            Answered self.now values.now (λ mask. bit mask ≡ outside) result }
     {
         Ok(self.ready(values)?.outside_mask())
     }
@@ -22,21 +23,24 @@ impl<K: ValueSet> Book<'_, K> {
     /// Which edits the record fails: a flag for each, that of edit j at place j - 1. The flags past
     /// the last edit are down.
     pub fn failed_edits(&self, values: &[u32]) -> Result<[bool; MOST_EDITS], Refusal>
-        ensures answer { Answered self.now values.now (λ flags. Flagged most_edits self.now.m (FailsEdit K.ValueSet.has self.now values.now) flags) result }
+        ensures answer { let failed = FailsEdit K.has self.now values.now in
+            Answered self.now values.now (λ flags. Flagged most_edits self.now.m failed flags) result }
     {
         Ok(self.ready(values)?.failed_flags())
     }
 
     /// Whether the record is sound: within the domains, and failing no edit.
     pub fn is_sound(&self, values: &[u32]) -> Result<bool, Refusal>
-        ensures answer { Answered self.now values.now (λ sound. IsTrue sound ↔ SoundUnder K.ValueSet.has self.now values.now) result }
+        ensures answer { let sound = SoundUnder K.has self.now values.now in
+            Answered self.now values.now (λ is_sound. IsTrue is_sound ↔ sound) result }
     {
         Ok(self.ready(values)?.is_sound())
     }
 
     // The record of the book, where this is a book and the values are those of a record.
-    fn ready<'x>(&'x self, values: &'x [u32]) -> Result<Record<'x, K>, Refusal>
-        ensures answer { Answered self.now values.now (λ r. (r.book.now ≡ self.now) × (r.values.now ≡ values.now)) result }
+    fn ready<'a>(&'a self, values: &'a [u32]) -> Result<Record<'a, K>, Refusal>
+        ensures answer { Answered self.now values.now
+            (λ r. (r.book.now ≡ self.now) × (r.values.now ≡ values.now)) result }
     {
         self.measure()?;
         if values.len() != self.n {

@@ -23,7 +23,7 @@ pub(crate) struct Record<'a, K> {
 impl<K: ValueSet> Record<'_, K> {
     // The fields outside their domains.
     pub(crate) fn outside_mask(&self) -> u32
-        ensures value { bit result ≡ outside_of K.ValueSet.has self.now.book.now self.now.values.now }
+        ensures value { bit result ≡ outside_of K.has self.now.book.now self.now.values.now }
     {
         let mut mask = 0;
         for (i, (domain, value)) in self.row(0).iter().zip(self.values).enumerate() {
@@ -36,43 +36,45 @@ impl<K: ValueSet> Record<'_, K> {
 
     // A flag for each edit, up where the record fails it.
     pub(crate) fn failed_flags(&self) -> [bool; MOST_EDITS]
-        ensures flags { Flagged most_edits self.now.book.now.m (FailsEdit K.ValueSet.has self.now.book.now self.now.values.now) result }
+        ensures flags { let book = self.now.book.now in
+            Flagged most_edits book.m (FailsEdit K.has book self.now.values.now) result }
     {
         array::from_fn(|place| self.flag(place))
     }
 
     // The flag at a place: up where there is an edit of the next number, and the record fails it.
     fn flag(&self, place: usize) -> bool
-        ensures decides { IsTrue result ↔ ((place < self.now.book.now.m) × FailsEdit K.ValueSet.has self.now.book.now self.now.values.now (place + 1)) }
+        ensures decides { let book = self.now.book.now in
+            IsTrue result ↔ ((place < book.m) × FailsEdit K.has book self.now.values.now (place + 1)) }
     {
         place < self.book.m && self.fails(place + 1)
     }
 
     // Whether the record is within the domains, and fails no edit.
     pub(crate) fn is_sound(&self) -> bool
-        ensures decides { IsTrue result ↔ SoundUnder K.ValueSet.has self.now.book.now self.now.values.now }
+        ensures decides { IsTrue result ↔ SoundUnder K.has self.now.book.now self.now.values.now }
     {
         self.is_inside() && self.passes_all()
     }
 
     // Whether each value is in its domain.
     fn is_inside(&self) -> bool
-        ensures decides { IsTrue result ↔ InsideDomains K.ValueSet.has self.now.book.now self.now.values.now }
+        ensures decides { IsTrue result ↔ InsideDomains K.has self.now.book.now self.now.values.now }
     {
         self.outside_mask() == 0
     }
 
     // Whether the record fails no edit.
     fn passes_all(&self) -> bool
-        ensures decides { IsTrue result ↔ PassesAll K.ValueSet.has self.now.book.now self.now.values.now }
+        ensures decides { IsTrue result ↔ PassesAll K.has self.now.book.now self.now.values.now }
     {
-        (0..self.book.m).all(|j| !self.fails(j + 1))
+        (0..self.book.m).all(|place| !self.fails(place + 1))
     }
 
     // Whether the record fails the edit with this number.
     fn fails(&self, number: usize) -> bool
         requires number { number ≤ self.now.book.now.m }
-        ensures decides { IsTrue result ↔ FailsEdit K.ValueSet.has self.now.book.now self.now.values.now number }
+        ensures decides { IsTrue result ↔ FailsEdit K.has self.now.book.now self.now.values.now number }
     {
         self.row(number)
             .iter()
@@ -86,15 +88,14 @@ impl<K: ValueSet> Record<'_, K> {
         requires number { number ≤ self.now.book.now.m }
         ensures row { result.now ≡ row_of self.now.book.now number }
     {
-        let sets = &self.book.sets[..];
         let start = number * self.book.n;
-        &sets[start..start + self.book.n]
+        &self.book.sets[start..start + self.book.n]
     }
 }
 
 // Whether the value is one that an edit speaks of: in its set, where it enters the field.
 fn is_met<K: ValueSet>(set: &K, domain: &K, value: u32) -> bool
-    ensures decides { IsTrue result ↔ SpeaksOf (K.ValueSet.has set.now) (K.ValueSet.has domain.now) value }
+    ensures decides { IsTrue result ↔ SpeaksOf (K.has set.now) (K.has domain.now) value }
 {
     set.contains(value) || set.equals(domain)
 }

@@ -13,5 +13,5 @@ returns g c =
       decides =
           each_place InRange _ (take n weights) n c.all.result (length-take-le n weights c.requires)
           (λ i w h is. rw (is ∙ get_or-take n weights i w h ∙ get_or_default weights i w 0 (omega arith)) (λ r. r, λ r. r))
-          (cases_from_all _ _ _ InRange (λ w. InRange w → ⊥) c.all.ensures.ran (YieldsList-from_slice (take n weights) c.iter.ensures.rest) (λ x q k. search (rules, tests)) (λ x q k. search (rules, tests)));
+          (cases_from_all _ _ _ InRange (λ w. InRange w → ⊥) c.all.ensures.ran (YieldsList-from_slice (take n weights) cc) (λ x q k. search (rules, tests)) (λ x q k. search (rules, tests)));
     }
