@@ -5,9 +5,9 @@ ghost use Rattle.std.specs.Prelude.{◌≡◌, ◌<◌, ◌≤◌, MatchResult};
 ghost use Rattle.sets.specs.Sets.{between};
 ghost use Rattle.sets.specs.Word.{bit};
 
-use book::Book;
 use book::mask::has_field;
 use book::refusal::Refusal;
+use book::{Book, MOST_EDITS};
 use sets::codes::Codes;
 use sets::{EMPTY_ANSWER, ValueSet};
 use std::alloc::{AllocError, Global};
@@ -58,14 +58,11 @@ fn sample_sets() -> Result<[Codes; 9], Refusal> {
 // The values of a sheet, an empty answer as a dash.
 fn spelled(heap: Global, values: &[u32]) -> Result<String, AllocError> {
     let mut text = String::new(heap);
-    for (i, value) in values.iter().enumerate() {
-        if i > 0 {
-            text.push_str(" ")?;
-        }
-        if *value == EMPTY_ANSWER {
-            text.push_str("-")?;
-        } else {
-            text.push_str(format!(in heap; "{value}")?.as_str())?;
+    for value in values {
+        part(&mut text, " ")?;
+        match *value {
+            EMPTY_ANSWER => text.push_str("-")?,
+            value => write!(text, "{value}")?,
         }
     }
     Ok(text)
@@ -76,19 +73,17 @@ fn findings(heap: Global, book: &Book<Codes>, values: &[u32]) -> anyhow::Result<
     let mask = book.outside_domains(values)?;
     let failed = book.failed_edits(values)?;
     let mut text = String::new(heap);
-    for (i, name) in NAMES.iter().enumerate() {
-        if has_field(mask, i) {
-            part(&mut text)?;
-            text.push_str(name)?;
-            text.push_str(" is outside its domain")?;
-        }
+    for (_, name) in NAMES
+        .iter()
+        .enumerate()
+        .filter(|(i, _)| has_field(mask, *i))
+    {
+        part(&mut text, "; ")?;
+        write!(text, "{name} is outside its domain")?;
     }
-    for (i, fails) in failed.iter().enumerate() {
-        if *fails {
-            part(&mut text)?;
-            let number = i.saturating_add(1);
-            text.push_str(format!(in heap; "fails edit {number}")?.as_str())?;
-        }
+    for (number, _) in (1..=MOST_EDITS).zip(&failed).filter(|(_, fails)| **fails) {
+        part(&mut text, "; ")?;
+        write!(text, "fails edit {number}")?;
     }
     if text.is_empty() {
         text.push_str("sound")?;
@@ -96,15 +91,15 @@ fn findings(heap: Global, book: &Book<Codes>, values: &[u32]) -> anyhow::Result<
     Ok(text)
 }
 
-// Begins the next finding.
-fn part(text: &mut String) -> Result<(), AllocError> {
+// Begins the next part of the text, set off from the part before it.
+fn part(text: &mut String, separator: &str) -> Result<(), AllocError> {
     if text.is_empty() {
         return Ok(());
     }
-    text.push_str("; ")
+    text.push_str(separator)
 }
 
-fn run(rt: &HostRuntime) -> anyhow::Result<()> {
+fn main(rt: HostRuntime) -> anyhow::Result<()> {
     let heap = rt.alloc();
     let sets = sample_sets()?;
     let book = Book {
@@ -113,15 +108,10 @@ fn run(rt: &HostRuntime) -> anyhow::Result<()> {
         sets: &sets,
         weights: &WEIGHTS,
     };
-    for (i, sheet) in SHEETS.iter().enumerate() {
-        let number = i.saturating_add(1);
+    for (number, sheet) in (1..=SHEETS.len()).zip(&SHEETS) {
         let values = spelled(heap, sheet)?;
         let found = findings(heap, &book, sheet)?;
         println!(rt; "sheet {number}\t{values}\t{found}")?;
     }
     Ok(())
-}
-
-fn main(rt: HostRuntime) -> anyhow::Result<()> {
-    run(&rt)
 }
