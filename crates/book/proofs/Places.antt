@@ -13,12 +13,15 @@ element [] i h = absurd (omega arith)
 element (x ∷ xs) zero h = x
 element (x ∷ xs) (suc i) h = element xs i (omega arith)
 
--- what `all` answers by P of each element, it answers by Q of each place, where the two say the same of an element and its place
+-- what `all` answers where its closure tells P of an element
+abbrev pub AnswersAll : {X : Type 0} → (X → Type 0) → List X → Bool → Type 0
+AnswersAll P xs r = MatchBool r (AllWithin P xs 0 (length xs)) ((k : ℕ) × (k < length xs) × HoldsAt (λ x. P x → ⊥) xs k)
+
+-- so it tells Q of each place, where P of an element says what Q says of its place
 pub each_place :
     {X : Type 0} (P : X → Type 0) (Q : ℕ → Type 0) (xs : List X) (n : ℕ) (r : Bool) → length xs ≡ n
     → ((i : ℕ) (x : X) → i < n → x ≡ get_or xs i x → P x ↔ Q i)
-    → MatchBool r (AllWithin P xs 0 (length xs)) ((k : ℕ) × (k < length xs) × HoldsAt (λ x. P x → ⊥) xs k)
-    → IsTrue r ↔ ((i : ℕ) → i < n → Q i)
+    → AnswersAll P xs r → IsTrue r ↔ ((i : ℕ) → i < n → Q i)
 each_place {X} P Q xs n r long same answer = at r answer
   where
     here : (i : ℕ) → i < n → (x : X) × (x ≡ get_or xs i x)
@@ -26,7 +29,7 @@ each_place {X} P Q xs n r long same answer = at r answer
         let d = element xs i (omega arith) in
         (get_or xs i d, get_or_default xs i d (get_or xs i d) (omega arith))
 
-    at : (b : Bool) → MatchBool b (AllWithin P xs 0 (length xs)) ((k : ℕ) × (k < length xs) × HoldsAt (λ x. P x → ⊥) xs k) → IsTrue b ↔ ((i : ℕ) → i < n → Q i)
+    at : (b : Bool) → AnswersAll P xs b → IsTrue b ↔ ((i : ℕ) → i < n → Q i)
     at true each = (
       λ _ i h. let x = here i h in (same i x.0 h x.1).0 (subst P (sym x.1) (each i x.0 (omega arith) (omega arith))),
       λ _. refl,

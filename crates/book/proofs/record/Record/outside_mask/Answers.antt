@@ -1,4 +1,4 @@
-use Rattle.std.proofs.Common.{◌≡◌, ℕ, ◌<◌, true, false, length, get_or, ◌∙◌, refl, sym, ap, length-append, arith}
+use Rattle.std.proofs.Common.{◌≡◌, ℕ, ◌<◌, true, false, length, get_or, ◌∙◌, sym, ap, length-append, arith}
 use Rattle.std.proofs.lemmas.Iterator.{YieldsList-from_slice, YieldsList-from_zip}
 use Rattle.std.proofs.lemmas.Iterator.Consumers.{YieldsList-at, YieldsList-from_enumerate, YieldsList-turn}
 use Rattle.std.proofs.lemmas.List.{get_or_default}
@@ -55,4 +55,4 @@ loop-i-preserved g c =
     let here : true ≡ has c.in-Some.domain.now (reading self.values.now (length c.loop-i.yielded)) =
     c.if-not-contains.ensures.value ∙ ap (has c.in-Some.domain.now) (sym t.3) in
     rw length-append
-    (found_inside has self.book.now self.ready.book self.values.now (length c.loop-i.yielded) t.1 c.in-Some.domain.now t.2 c.loop-i.mask c.loop-i.mask c.loop-i.invariant here refl)
+    (found_inside has self.book.now self.ready.book self.values.now (length c.loop-i.yielded) t.1 c.in-Some.domain.now t.2 c.loop-i.mask c.loop-i.invariant here)
