@@ -59,7 +59,7 @@ fn sample_sets() -> Result<[Codes; 9], Refusal> {
 fn spelled(heap: Global, values: &[u32]) -> Result<String, AllocError> {
     let mut text = String::new(heap);
     for value in values {
-        part(&mut text, " ")?;
+        begin_part(&mut text, " ")?;
         match *value {
             EMPTY_ANSWER => text.push_str("-")?,
             value => write!(text, "{value}")?,
@@ -78,11 +78,11 @@ fn findings(heap: Global, book: &Book<Codes>, values: &[u32]) -> anyhow::Result<
         .enumerate()
         .filter(|(i, _)| has_field(mask, *i))
     {
-        part(&mut text, "; ")?;
+        begin_part(&mut text, "; ")?;
         write!(text, "{name} is outside its domain")?;
     }
     for (number, _) in (1..=MOST_EDITS).zip(&failed).filter(|(_, fails)| **fails) {
-        part(&mut text, "; ")?;
+        begin_part(&mut text, "; ")?;
         write!(text, "fails edit {number}")?;
     }
     if text.is_empty() {
@@ -92,7 +92,7 @@ fn findings(heap: Global, book: &Book<Codes>, values: &[u32]) -> anyhow::Result<
 }
 
 // Begins the next part of the text, set off from the part before it.
-fn part(text: &mut String, separator: &str) -> Result<(), AllocError> {
+fn begin_part(text: &mut String, separator: &str) -> Result<(), AllocError> {
     if text.is_empty() {
         return Ok(());
     }
