@@ -4,7 +4,7 @@
 ghost use Rattle.std.specs.Prelude.{◌≤◌, ◌↔◌, IsTrue, length};
 ghost use Rattle.book.specs.Answers.{Measuring};
 ghost use Rattle.book.specs.Books.{IsBook};
-ghost use Rattle.book.specs.Measure.{most_edits, most_fields, Sized, Weighed};
+ghost use Rattle.book.specs.Measure.{most_edits, most_fields, most_weight, Sized, Weighed};
 
 use refusal::Refusal;
 
@@ -59,7 +59,7 @@ impl<K> Book<'_, K> {
     {
         self.weights[..self.n]
             .iter()
-            .all(|weight| (1..=MOST_WEIGHT).contains(weight))
+            .all(|weight| is_weight(*weight))
     }
 
     /// Takes the book's measure: whether the numbers of fields and edits are in range, the tables
@@ -73,6 +73,13 @@ impl<K> Book<'_, K> {
             Err(Refusal::BadMeasure)
         }
     }
+}
+
+// Whether a weight is in the range of weights.
+fn is_weight(weight: u8) -> bool
+    ensures decides { IsTrue result ↔ ((1 ≤ weight) × (weight ≤ most_weight)) }
+{
+    (1..=MOST_WEIGHT).contains(&weight)
 }
 
 #[cfg(test)]
