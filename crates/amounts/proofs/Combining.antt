@@ -9,7 +9,8 @@ use Rattle.sets.specs.declared.SetRefusal.{SetRefusal}
 use Rattle.amounts.specs.Rows.{counted, inside, places, Ascending}
 use Rattle.amounts.specs.Drafts.{Made}
 use Rattle.amounts.specs.Held.{below}
-use Rattle.amounts.specs.Walks.{ahead, values}
+use Rattle.amounts.specs.Pairs.{both_left, count_left, either_left}
+use Rattle.amounts.specs.Walks.{ahead, Keeps, Takes, values}
 use Rattle.amounts.specs.Pieces.{leading, overlap, Splits}
 use Rattle.amounts.specs.Runs.{not_true, same_run, or_assoc, between_true, inside_bounds}
 use Rattle.std.specs.Iterator.{YieldsFirst}
@@ -81,11 +82,11 @@ module _ (top also : ℕ) (xs ys : List Run) (a : Ascending top 0 xs) (b : Ascen
 
 module _ (s : Either) (o : Option Run) (next : Runs) where
   pub mine_first : leading (slice_get (ahead s.theirs) 0) (slice_get (ahead s.mine) 0) ≡ false → YieldsFirst ahead s.mine o next
-      → Splits (joined (inside (ahead s.mine)) (inside (ahead s.theirs))) o (joined (inside (ahead next)) (inside (ahead s.theirs)))
+      → Splits (either_left s) o (either_left (record { mine = next; theirs = s.theirs }))
   mine_first l step = mine_goes s.mine.top s.theirs.top (ahead s.mine) (ahead s.theirs) (rising s.mine) (rising s.theirs) l o (ahead next) step
 
   pub theirs_first : leading (slice_get (ahead s.theirs) 0) (slice_get (ahead s.mine) 0) ≡ true → YieldsFirst ahead s.theirs o next
-      → Splits (joined (inside (ahead s.mine)) (inside (ahead s.theirs))) o (joined (inside (ahead s.mine)) (inside (ahead next)))
+      → Splits (either_left s) o (either_left (record { mine = s.mine; theirs = next }))
   theirs_first l step = theirs_goes s.mine.top s.theirs.top (ahead s.mine) (ahead s.theirs) (rising s.mine) (rising s.theirs) l o (ahead next) step
 
 -- ---- common members
@@ -168,14 +169,7 @@ common_swap a b = same_run (common a b) (common b a) (omega arith) (omega arith)
 
 -- one turn, from rows that begin with a and b: the row whose run ends first goes on
 module _ (s t : Both) (a b : Run) (e : slice_get (ahead s.mine) 0 ≡ Some a) (f : slice_get (ahead s.theirs) 0 ≡ Some b)
-    (mine : a.high ≤ b.high → (ahead s.mine ≡ (a ∷ ahead t.mine)) × (ahead t.theirs ≡ ahead s.theirs))
-    (theirs : b.high < a.high → (ahead s.theirs ≡ (b ∷ ahead t.theirs)) × (ahead t.mine ≡ ahead s.mine)) where
-  abbrev here : Values
-  here = met (inside (ahead s.mine)) (inside (ahead s.theirs))
-
-  abbrev there : Values
-  there = met (inside (ahead t.mine)) (inside (ahead t.theirs))
-
+    (mine : a.high ≤ b.high → Takes a s.mine t.mine × Keeps s.theirs t.theirs) (theirs : b.high < a.high → Takes b s.theirs t.theirs × Keeps s.mine t.mine) where
   abbrev overlaps : Bool
   overlaps = nat_le (common a b).low (common a b).high
 
@@ -183,23 +177,23 @@ module _ (s t : Both) (a b : Run) (e : slice_get (ahead s.mine) 0 ≡ Some a) (f
   swapped : (c : Bool) → overlaps ≡ c → nat_le (common b a).low (common b a).high ≡ c
   swapped c o = sym (ap (λ (r : Run). nat_le r.low r.high) (common_swap a b)) ∙ o
 
-  found_here : overlaps ≡ true → Splits here (Some (common a b)) there
+  found_here : overlaps ≡ true → Splits (both_left s) (Some (common a b)) (both_left t)
   found_here c =
       elim (cases_lt b.high a.high) [
         | inr h ↦
             let p = mine h in
-            subst (λ (ws : List Run). Splits here (Some (common a b)) (met (inside (ahead t.mine)) (inside ws))) (sym p.1)
+            subst (λ (ws : List Run). Splits (both_left s) (Some (common a b)) (met (inside (ahead t.mine)) (inside ws))) (sym p.1)
             (found s.mine.top s.theirs.top a b _ _ (ahead t.mine) (rising s.mine) (rising s.theirs) p.0 f h c)
         | inl h ↦
             let p = theirs h in
             let other = found s.theirs.top s.mine.top b a _ _ (ahead t.theirs) (rising s.theirs) (rising s.mine) p.0 e (omega arith) (swapped true c) in
-            subst (λ (A : Values). Splits A (Some (common a b)) there) (met_swap (inside (ahead s.theirs)) (inside (ahead s.mine)))
+            subst (λ (A : Values). Splits A (Some (common a b)) (both_left t)) (met_swap (inside (ahead s.theirs)) (inside (ahead s.mine)))
             (subst (λ (B : Values). Splits (met (inside (ahead s.theirs)) (inside (ahead s.mine))) (Some (common a b)) B)
             (met_swap (inside (ahead t.theirs)) (inside (ahead s.mine)) ∙ ap (λ (ws : List Run). met (inside ws) (inside (ahead t.theirs))) (sym p.1))
             (subst (λ (r : Run). Splits (met (inside (ahead s.theirs)) (inside (ahead s.mine))) (Some r) (met (inside (ahead t.theirs)) (inside (ahead s.mine)))) (sym (common_swap a b)) other))
       ]
 
-  skipped_here : overlaps ≡ false → here ≡ there
+  skipped_here : overlaps ≡ false → both_left s ≡ both_left t
   skipped_here c =
       elim (cases_lt b.high a.high) [
         | inr h ↦
@@ -213,21 +207,21 @@ module _ (s t : Both) (a b : Run) (e : slice_get (ahead s.mine) 0 ≡ Some a) (f
             ∙ met_swap (inside (ahead t.theirs)) (inside (ahead s.mine)) ∙ ap (λ (ws : List Run). met (inside ws) (inside (ahead t.theirs))) (sym p.1)
       ]
 
-  pub turn_found : (r : Run) → overlap a b ≡ Some r → Splits here (Some r) there
+  pub turn_found : (r : Run) → overlap a b ≡ Some r → Splits (both_left s) (Some r) (both_left t)
   turn_found r o = elim (cases_Bool overlaps) [
     | inl c ↦
         let same : common a b ≡ r = some_same (sym (ap (λ (d : Bool). then_some d (common a b)) c) ∙ o) in
-        subst (λ (x : Run). Splits here (Some x) there) same (found_here c)
+        subst (λ (x : Run). Splits (both_left s) (Some x) (both_left t)) same (found_here c)
     | inr c ↦ absurd (none_some (sym (ap (λ (d : Bool). then_some d (common a b)) c) ∙ o))
   ]
 
-  pub turn_skipped : overlap a b ≡ None → here ≡ there
+  pub turn_skipped : overlap a b ≡ None → both_left s ≡ both_left t
   turn_skipped o = elim (cases_Bool overlaps) [
     | inl c ↦ absurd (none_some (sym o ∙ ap (λ (d : Bool). then_some d (common a b)) c))
     | inr c ↦ skipped_here c
   ]
 
-  pub turn_less : length (ahead t.mine) + length (ahead t.theirs) < length (ahead s.mine) + length (ahead s.theirs)
+  pub turn_less : count_left t.mine t.theirs < count_left s.mine s.theirs
   turn_less = elim (cases_lt b.high a.high) [
     | inr h ↦ let p = mine h in omega (arith, ap length p.0, ap length p.1)
     | inl h ↦ let p = theirs h in omega (arith, ap length p.0, ap length p.1)

@@ -3,6 +3,7 @@ pub mod Rows
 pub mod Walks
 pub mod Drafts
 pub mod Pieces
+pub mod Pairs
 pub mod Amounts
 pub mod Held
 pub mod RowsLemmas

@@ -1,5 +1,5 @@
 -- Going through the runs of a row.
-use Rattle.std.specs.Prelude.{◌≡◌, ℕ, ◌+◌, ◌<◌, ◌≤◌, Bool, false, ◌&&◌, List, Some, None, Option, nat_le}
+use Rattle.std.specs.Prelude.{◌≡◌, ℕ, ◌+◌, ◌<◌, ◌≤◌, Bool, false, ◌&&◌, List, ◌∷◌, Some, None, Option, nat_le}
 use Rattle.sets.specs.declared.Run.{Run}
 use Rattle.sets.specs.Sets.{Values, between}
 use Rattle.amounts.specs.declared.row.Runs.{Runs}
@@ -12,6 +12,14 @@ values top most row = members top (places most row)
 -- the runs that are still to come
 abbrev pub ahead : Runs → List Run
 ahead s = counted s.top s.least s.places.now
+
+-- between s and t the run r was taken
+abbrev pub Takes : Run → Runs → Runs → Type 0
+Takes r s t = ahead s ≡ (r ∷ ahead t)
+
+-- between s and t nothing was taken
+abbrev pub Keeps : Runs → Runs → Type 0
+Keeps s t = ahead t ≡ ahead s
 
 -- the run r ends at `from` or above, and tells which values are members from there up to one past its end;
 -- or there is no member from `from` on

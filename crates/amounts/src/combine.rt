@@ -1,12 +1,12 @@
 //! The row that two rows make, in one walk over both.
 
-ghost use Rattle.std.specs.Prelude.{◌≡◌, ℕ, ◌+◌, ◌<◌, ◌≤◌, ◌∷◌, Option, Some, length, slice_get};
+ghost use Rattle.std.specs.Prelude.{◌≡◌, ℕ, ◌<◌, ◌≤◌, Option, Some, slice_get};
 ghost use Rattle.std.specs.Iterator.{at_most, IsFinite};
 ghost use Rattle.amounts.specs.Drafts.{Made};
 ghost use Rattle.amounts.specs.Limits.{most_runs};
 ghost use Rattle.amounts.specs.Pieces.{leading, overlap, Splits};
-ghost use Rattle.amounts.specs.Rows.{inside};
-ghost use Rattle.amounts.specs.Walks.{ahead, values};
+ghost use Rattle.amounts.specs.Pairs.{both_left, count_left, either_left};
+ghost use Rattle.amounts.specs.Walks.{ahead, Keeps, Takes, values};
 ghost use Rattle.sets.specs.Sets.{joined as either, met as both, Values, ◌∈◌};
 ghost use Rattle.sets.specs.declared.Run.{Run};
 
@@ -20,7 +20,8 @@ pub(crate) trait Pieces: Iterator<Item = Run> {
     // the values of the runs that are still to come
     ghost left: { Self → Values };
 
-    ghost splits: { (s : Self) (r : Option Run) (t : Self) → Self.Iterator.next_gives s r t → Splits (left s) r (left t) };
+    ghost splits: { (s : Self) (r : Option Run) (t : Self) →
+        Self.Iterator.next_gives s r t → Splits (left s) r (left t) };
 }
 
 /// The runs of two rows, the one that begins first next.
@@ -30,12 +31,12 @@ pub(crate) struct Either<'a> {
     pub(crate) theirs: Runs<'a>,
 }
 
-impl<'a> Iterator for Either<'a> {
+impl Iterator for Either<'_> {
     type Item = Run;
 
-    ghost next_gives = { λ s r t. Splits (either (inside (ahead s.mine)) (inside (ahead s.theirs))) r (either (inside (ahead t.mine)) (inside (ahead t.theirs))) };
+    ghost next_gives = { λ s r t. Splits (either_left s) r (either_left t) };
 
-    ghost remaining = { λ s. at_most (length (ahead s.mine) + length (ahead s.theirs)) };
+    ghost remaining = { λ s. at_most (count_left s.mine s.theirs) };
 
     fn next(&mut self) -> Option<Run> {
         if leads(self.theirs.peek(), self.mine.peek()) {
@@ -46,8 +47,8 @@ impl<'a> Iterator for Either<'a> {
     }
 }
 
-impl<'a> Pieces for Either<'a> {
-    ghost left = { λ s. either (inside (ahead s.mine)) (inside (ahead s.theirs)) };
+impl Pieces for Either<'_> {
+    ghost left = { either_left };
 
     ghost splits = { λ s r t g. g };
 }
@@ -65,8 +66,10 @@ impl Both<'_> {
     fn pass(&mut self, a: Run, b: Run)
         requires mine { slice_get (ahead self.old.mine) 0 ≡ Some a }
         requires theirs { slice_get (ahead self.old.theirs) 0 ≡ Some b }
-        ensures mine { a.high ≤ b.high → (ahead self.old.mine ≡ (a ∷ ahead self.new.mine)) × (ahead self.new.theirs ≡ ahead self.old.theirs) }
-        ensures theirs { b.high < a.high → (ahead self.old.theirs ≡ (b ∷ ahead self.new.theirs)) × (ahead self.new.mine ≡ ahead self.old.mine) }
+        ensures mine { a.high ≤ b.high →
+            Takes a self.old.mine self.new.mine × Keeps self.old.theirs self.new.theirs }
+        ensures theirs { b.high < a.high →
+            Takes b self.old.theirs self.new.theirs × Keeps self.old.mine self.new.mine }
     {
         if a.high <= b.high {
             self.mine.next();
@@ -76,14 +79,15 @@ impl Both<'_> {
     }
 }
 
-impl<'a> Iterator for Both<'a> {
+impl Iterator for Both<'_> {
     type Item = Run;
 
-    ghost next_gives = { λ s r t. Splits (both (inside (ahead s.mine)) (inside (ahead s.theirs))) r (both (inside (ahead t.mine)) (inside (ahead t.theirs))) };
+    ghost next_gives = { λ s r t. Splits (both_left s) r (both_left t) };
 
-    ghost remaining = { λ s. at_most (length (ahead s.mine) + length (ahead s.theirs)) };
+    ghost remaining = { λ s. at_most (count_left s.mine s.theirs) };
 
     fn next(&mut self) -> Option<Run> {
+        // each turn takes from one of the two, so no chain of one iterator serves
         while let (Some(a), Some(b)) = (self.mine.peek(), self.theirs.peek()) {
             self.pass(a, b);
             if let Some(run) = common(a, b) {
@@ -94,8 +98,8 @@ impl<'a> Iterator for Both<'a> {
     }
 }
 
-impl<'a> Pieces for Both<'a> {
-    ghost left = { λ s. both (inside (ahead s.mine)) (inside (ahead s.theirs)) };
+impl Pieces for Both<'_> {
+    ghost left = { both_left };
 
     ghost splits = { λ s r t g. g };
 }
@@ -121,9 +125,10 @@ fn common(a: Run, b: Run) -> Option<Run>
 
 // The row of the runs, or a refusal where they make too many.
 fn gathered<P: Pieces>(pieces: P) -> Result<[Run; MOST_RUNS], SetRefusal>
-    requires can { P.Iterator.can_next pieces }
-    requires ends { IsFinite (P.Iterator.remaining pieces) }
-    ensures made { (top : ℕ) → ((v : ℕ) → v ∈ P.Pieces.left pieces → v < top) → Made top most_runs (P.Pieces.left pieces) result }
+    requires can { P.can_next pieces }
+    requires ends { IsFinite (P.remaining pieces) }
+    ensures made { (top : ℕ) → ((v : ℕ) → v ∈ P.left pieces → v < top) →
+        Made top most_runs (P.left pieces) result }
 {
     let mut draft = Draft::new();
     for run in pieces {
@@ -138,7 +143,9 @@ pub(crate) fn met(
     other: &[Run; MOST_RUNS],
     top: u32,
 ) -> Result<[Run; MOST_RUNS], SetRefusal>
-    ensures made { Made top most_runs (both (values top most_runs row.now) (values top most_runs other.now)) result }
+    ensures made { let mine = values top most_runs row.now in
+        let theirs = values top most_runs other.now in
+        Made top most_runs (both mine theirs) result }
 {
     gathered(Both {
         mine: Runs::of(row, top),
@@ -152,7 +159,9 @@ pub(crate) fn joined(
     other: &[Run; MOST_RUNS],
     top: u32,
 ) -> Result<[Run; MOST_RUNS], SetRefusal>
-    ensures made { Made top most_runs (either (values top most_runs row.now) (values top most_runs other.now)) result }
+    ensures made { let mine = values top most_runs row.now in
+        let theirs = values top most_runs other.now in
+        Made top most_runs (either mine theirs) result }
 {
     gathered(Either {
         mine: Runs::of(row, top),

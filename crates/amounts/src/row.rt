@@ -45,7 +45,7 @@ impl<'a> Runs<'a> {
     }
 }
 
-impl<'a> Iterator for Runs<'a> {
+impl Iterator for Runs<'_> {
     type Item = Run;
 
     ghost next_gives = { YieldsFirst ahead };
@@ -84,6 +84,9 @@ fn reaches(run: Run, from: u32) -> bool
     from <= run.high
 }
 
+// The questions take a row and its top, and no struct of the two: a call that made one would hide from
+// the proofs what it holds, so each call would write both down again.
+
 /// What the first run that ends at `from` or above tells of the values from there on.
 pub(crate) fn seek(row: &[Run; MOST_RUNS], top: u32, from: u32) -> Option<Run>
     ensures sought { Sought (values top most_runs row.now) top from result }
@@ -100,17 +103,20 @@ pub(crate) fn is_empty(row: &[Run; MOST_RUNS], top: u32) -> bool
 
 /// Whether both have the same members.
 pub(crate) fn same(row: &[Run; MOST_RUNS], other: &[Run; MOST_RUNS], top: u32) -> bool
-    ensures decides { IsTrue result ↔ (values top most_runs row.now ≡ values top most_runs other.now) }
+    ensures decides { IsTrue result ↔
+        (values top most_runs row.now ≡ values top most_runs other.now) }
 {
     Runs::of(row, top).eq(Runs::of(other, top))
 }
 
 /// Whether each member is one of the other's.
 pub(crate) fn within(row: &[Run; MOST_RUNS], other: &[Run; MOST_RUNS], top: u32) -> bool
-    ensures decides { IsTrue result ↔ Within (values top most_runs row.now) (values top most_runs other.now) }
+    ensures decides { IsTrue result ↔
+        Within (values top most_runs row.now) (values top most_runs other.now) }
 {
     let mut mine = Runs::of(row, top);
     let mut theirs = Runs::of(other, top);
+    // each turn takes from one of the two, so no chain of one iterator serves
     while let Some(run) = mine.peek() {
         let Some(cover) = theirs.peek() else {
             return false;

@@ -28,6 +28,7 @@ pub const MOST_WEIGHT: u8 = 100;
 /// The sets table is flat: the `n` domains first, then the `n` sets of each of the `m` edits. The
 /// weights table has a weight for each field. The host may pass anything; each call takes the
 /// book's measure first, in time linear in `n`, and refuses what is none.
+// Two flat tables and two sizes, and no rows of their own: the tables are the host's memory.
 #[derive(Clone, Copy)]
 pub struct Book<'a, K> {
     /// How many fields a record has, 1 to 24.

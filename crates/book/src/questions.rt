@@ -13,6 +13,7 @@ use sets::ValueSet;
 
 impl<K: ValueSet> Book<'_, K> {
     /// Which fields of the record are outside their domains: a mask with bit i for field i.
+    // A number and no type of its own: hosts keep masks, print them and compare them as numbers.
     pub fn outside_domains(&self, values: &[u32]) -> Result<u32, Refusal>
         ensures answer { let outside = outside_of K.has self.now values.now in
             Answered self.now values.now (λ mask. bit mask ≡ outside) result }
@@ -22,6 +23,7 @@ impl<K: ValueSet> Book<'_, K> {
 
     /// Which edits the record fails: a flag for each, that of edit j at place j - 1. The flags past
     /// the last edit are down.
+    // An array and no list: nothing here may take memory.
     pub fn failed_edits(&self, values: &[u32]) -> Result<[bool; MOST_EDITS], Refusal>
         ensures answer { let failed = FailsEdit K.has self.now values.now in
             Answered self.now values.now (λ flags. Flagged most_edits self.now.m failed flags) result }

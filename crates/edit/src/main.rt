@@ -10,6 +10,7 @@ use std::fmt;
 
 const NAMES: [&str; 3] = ["years", "role", "wage"];
 
+// Beside the names, since a book takes its weights as a table of numbers.
 const WEIGHTS: [u8; 3] = [3, 1, 2];
 
 const SHEETS: [[u32; 3]; 6] = [

@@ -83,12 +83,14 @@ pub trait ValueSet: Copy {
 
     /// Puts the common members into the place.
     fn meet(&self, other: &Self, place: &mut Self) -> Result<(), SetRefusal>
-        ensures placed { Placed has holds (met (has self.now) (has other.now)) place.old place.new result }
+        ensures placed { let wanted = met (has self.now) (has other.now) in
+            Placed has holds wanted place.old place.new result }
         ensures tidy { OnOk result (tidy place.new) };
 
     /// Puts the members of either into the place.
     fn join(&self, other: &Self, place: &mut Self) -> Result<(), SetRefusal>
-        ensures placed { Placed has holds (joined (has self.now) (has other.now)) place.old place.new result }
+        ensures placed { let wanted = joined (has self.now) (has other.now) in
+            Placed has holds wanted place.old place.new result }
         ensures tidy { OnOk result (tidy place.new) };
 
     ghost top_fits: { top ≤ 4294967295 };
@@ -138,6 +140,7 @@ pub fn next_run<K: Stepping>(set: &K, from: u32) -> Option<Run>
 }
 
 /// What an empty answer reads as.
+// A number and no `Option`: records come and go as the host's tables of 32-bit numbers.
 pub const EMPTY_ANSWER: u32 = 4_294_967_295;
 
 /// Whether an empty answer is a member: never, of whatever kind the set is.

@@ -1,7 +1,7 @@
 use Rattle.std.proofs.Common.{Some, sym, ◌∙◌, subst, inl, inr, arith}
-use Rattle.sets.specs.Sets.{met, Values}
+use Rattle.sets.specs.Sets.{Values}
+use Rattle.amounts.specs.Pairs.{both_left}
 use Rattle.amounts.specs.Pieces.{Splits}
-use Rattle.amounts.specs.Rows.{inside}
 use Rattle.amounts.specs.Walks.{ahead}
 use Rattle.amounts.proofs.Combining.{turn_found, turn_skipped, turn_less, none_common}
 use Rattle.amounts.proofs.combine.BothIterator.next.Goals as goal
@@ -10,7 +10,7 @@ pub returns-in-Some-clause-steps : goal.returns-in-Some-clause-steps
 returns-in-Some-clause-steps c =
     let s = c.loop-a.self in
     let t = c.pass.new.self in
-    subst (λ (A : Values). Splits A (Some c.in-Some.run') (met (inside (ahead t.mine)) (inside (ahead t.theirs)))) (sym c.loop-a.invariant.0)
+    subst (λ (A : Values). Splits A (Some c.in-Some.run') (both_left t)) (sym c.loop-a.invariant.0)
     (turn_found s t _ _ (sym c.peek.ensures.first ∙ c.in-Some-Some.is-0) (sym c.peek-in-loop-a.ensures.first ∙ c.in-Some-Some.is-1) c.pass.ensures.mine c.pass.ensures.theirs c.in-Some.run' (sym c.common.ensures.value ∙ c.in-Some.is))
 
 pub loop-a-preserved : goal.loop-a-preserved
