@@ -1,5 +1,5 @@
 -- A row in the making.
-use Rattle.std.specs.Prelude.{◌≡◌, ℕ, ◌+◌, ◌-◌, max, Bool, true, false, cond, ◌&&◌, List, replicate, Ok, Err, Result, ◌==◌, nat_le, nat_lt, slice_index_or, slice_set}
+use Rattle.std.specs.Prelude.{◌≡◌, ℕ, ◌+◌, ◌-◌, max, Bool, true, false, if◌then◌else◌, ◌&&◌, List, replicate, Ok, Err, Result, ◌==◌, nat_le, nat_lt, slice_index_or, slice_set}
 use Rattle.sets.specs.declared.Run.{Run}
 use Rattle.sets.specs.declared.SetRefusal.{SetRefusal}
 use Rattle.sets.specs.declared.SetRefusal.TheVariants.{NotHeld}
@@ -27,10 +27,10 @@ pushed d r = record { runs = slice_set d.runs d.count r; count = d.count + 1 }
 
 -- the draft after a run is added, if it may have so many runs
 abbrev pub added : ℕ → Draft → Run → Draft
-added most d r = cond (touches d r) (widened d r) (cond (d.count == most) d (pushed d r))
+added most d r = if touches d r then widened d r else (if d.count == most then d else pushed d r)
 
 abbrev pub answered : ℕ → Draft → Run → Result (Unit {0}) SetRefusal
-answered most d r = cond (touches d r) (Ok tt) (cond (d.count == most) (Err NotHeld) (Ok tt))
+answered most d r = if touches d r then Ok tt else (if d.count == most then Err NotHeld else Ok tt)
 
 -- a tidy row with the members of A, or A has too many runs
 abbrev pub Made : ℕ → ℕ → Values → Result (List Run) SetRefusal → Type 0

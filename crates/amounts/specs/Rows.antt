@@ -1,5 +1,5 @@
 -- Rows of runs as sets of the values below a top.
-use Rattle.std.specs.Prelude.{◌≡◌, ℕ, zero, suc, ◌+◌, ◌<◌, ◌≤◌, Bool, true, false, cond, not, ◌&&◌, List, [], ◌∷◌, length, take, nat_le, nat_lt}
+use Rattle.std.specs.Prelude.{◌≡◌, ℕ, zero, suc, ◌+◌, ◌<◌, ◌≤◌, Bool, true, false, if◌then◌else◌, not, ◌&&◌, List, [], ◌∷◌, length, take, nat_le, nat_lt}
 use Rattle.sets.specs.declared.Run.{Run}
 use Rattle.sets.specs.Sets.{Values, between, joined, nothing}
 
@@ -11,7 +11,7 @@ stands top least r = nat_le least r.low && (nat_le r.low r.high && nat_lt r.high
 -- leaves no gap above the one before it; the first of them begins at `least` or above
 abbrev pub counted : ℕ → ℕ → List Run → List Run
 counted top least [] = []
-counted top least (r ∷ rs) = cond (stands top least r) (r ∷ counted top (r.high + 2) rs) []
+counted top least (r ∷ rs) = if stands top least r then r ∷ counted top (r.high + 2) rs else []
 
 -- the values of some runs
 abbrev pub inside : List Run → Values
@@ -41,7 +41,7 @@ before (suc n) A = A n
 -- Kept shut, since it must never compute at a bound of thousands of millions.
 unfoldable pub starts : ℕ → Values → ℕ
 starts zero A = 0
-starts (suc n) A = starts n A + cond (A n && not (before n A)) 1 0
+starts (suc n) A = starts n A + (if A n && not (before n A) then 1 else 0)
 
 -- A has at most so many maximal runs below the top
 abbrev pub few : ℕ → ℕ → Values → Bool

@@ -1,5 +1,5 @@
 -- How the tables and slices of a program are read as edits and records.
-use Rattle.std.specs.Prelude.{ℕ, zero, suc, ◌+◌, ◌*◌, cond, List, [], ◌∷◌, map, nat_lt, slice_index, slice_index_or}
+use Rattle.std.specs.Prelude.{ℕ, zero, suc, ◌+◌, ◌*◌, if◌then◌else◌, List, [], ◌∷◌, map, nat_lt, slice_index, slice_index_or}
 use Rattle.sets.specs.Sets.{Values, nothing}
 use Rattle.editing.specs.Edits.{Edit, Record}
 
@@ -13,7 +13,7 @@ at table q = slice_index_or table q nothing
 
 -- Row j of a flat table with n sets to a row. From n on a row has nothing, so that no row depends on the next.
 abbrev pub row : ℕ → List Values → ℕ → Edit
-row n table j i = cond (nat_lt i n) (at table (j * n + i)) nothing
+row n table j i = if nat_lt i n then at table (j * n + i) else nothing
 
 -- The edits of the rows j, j + 1 and so on, c in all.
 abbrev pub rows : (ℕ → Edit) → ℕ → ℕ → List Edit
