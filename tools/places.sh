@@ -6,9 +6,12 @@ show() { echo "== $1"; grep -nE "$2" crates/*/src/*.rt; echo "   $(cat crates/*/
 show '1a enums, to be read' '^(pub(\(crate\))? )?enum '
 show '1b numbers answered by a match' '=> [0-9]+,$'
 show '1c an Option taken apart or made by hand' 'None => (false|true|None)|_ => (Some|None)|\{ Some\([a-z_]+\) \} else \{ None \}'
-show '1d a number that stands for no value, or for several fields' 'const EMPTY_ANSWER|-> Result<u32, Refusal>'
-show '2a functions of one name or shape, to be read' 'fn (span|run_of|met|joined|within|same|first|after|at|least_one|least_zero)[(<]'
-show '2b questions that differ in one call' 'self\.ready\(values\)\?'
+show '1d constants and numbers handed out, to be read' '^(pub(\(crate\))? )?const |-> (Result<)?u32'
+echo '== 2a functions of a name that stands in two files or more, to be read'
+for name in $(for file in crates/*/src/*.rt; do grep -ohE '^ *(pub(\(crate\))? )?fn [a-z_0-9]+' "$file" | sed 's/.*fn //' | sort -u; done | sort | uniq -d); do
+    grep -nE "^ *(pub(\(crate\))? )?fn $name[(<]" crates/*/src/*.rt
+done
+show '2b questions that differ in one call' 'self\.(ready|record)\(values\)\?'
 show '3a loops over a range of numbers' 'for [a-z_]+ in [^{]*[0-9a-z_]\.\.'
 show '3b while and loop' 'while |loop \{'
 show '4 equality, order, copying, conversion, printing' '^impl.* (PartialEq|Eq|PartialOrd|Ord|Clone|Copy|Default|From<.*>|TryFrom<.*>|Display|fmt::Display|Debug) for|^ *(pub(\(crate\))? )?fn (eq|cmp|equals|same|spelled|findings|part|to_[a-z]+|from_[a-z]+)[(<]'

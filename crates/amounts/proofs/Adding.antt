@@ -10,14 +10,13 @@ use Rattle.sets.specs.declared.SetRefusal.TheVariants.{NotHeld}
 use Rattle.sets.specs.Sets.{Values, ◌∈◌, nothing, between, joined}
 use Rattle.amounts.specs.declared.draft.Draft.{Draft}
 use Rattle.amounts.specs.Pieces.{Splits}
-use Rattle.amounts.specs.Rows.{counted, inside, members, starts, few, Filled}
-use Rattle.amounts.specs.Drafts.{last, no_runs, touches, widened, pushed, added, answered, Made}
+use Rattle.amounts.specs.Rows.{counted, members, starts, few, Filled}
+use Rattle.amounts.specs.Drafts.{last, touches, widened, pushed, added, answered, Made}
 use Rattle.amounts.specs.RowsLemmas.{ascends, places_all}
 use Rattle.amounts.proofs.Drafts.{Drafts}
 use Rattle.amounts.specs.Runs.{or_nothing, or_assoc, between_true, is_between}
 use Rattle.amounts.specs.Counting.{starts_apart, starts_inside, starts_some}
-use Rattle.amounts.proofs.Drafting.{Grown, push, widen, last_most, blank_counts, filled_counts, filled_most}
-use Rattle.amounts.proofs.Singles.{blanks, blanks_filled, blanks_long}
+use Rattle.amounts.proofs.Drafting.{Grown, push, widen, last_most, filled_counts, filled_most}
 
 pub starts_filled : (top k : ℕ) (rs : List Run) → Filled top 0 k rs → starts top (members top rs) ≡ k
 starts_filled top k rs f = starts_inside top 0 (counted top 0 rs) (ascends top 0 rs) top (omega arith) ∙ filled_counts top 0 k rs f
@@ -146,16 +145,6 @@ module _ (top most : ℕ) (A : Values) (d : Draft) (r : Run) (here next : Values
       ]
 
 -- ---- the pieces of a set, one after another
-
--- nothing is in the draft yet
-pub none_added : (top most : ℕ) (A : Values) → Drafts top most A (no_runs most) A
-none_added top most A =
-    record {
-      filled = blanks_filled top 0 most;
-      long = blanks_long most;
-      whole = fun_ext (λ v. sym (ap (λ (xs : List Run). inside xs v || A v) (blank_counts top 0 0 (blanks most) (blanks_filled top 0 most))));
-      later = λ v m h. absurd (omega arith);
-    }
 
 module _ (top most : ℕ) (A : Values) (bound : (v : ℕ) → v ∈ A → v < top) (d : Draft) (here : Values) (s : Drafts top most A d here) where
   module _ (r : Run) (next : Values) (piece : Splits here (Some r) next) where

@@ -181,10 +181,3 @@ module _ (s t : Runs) (r : Run) (e : slice_get (ahead s) 0 ≡ Some r) where
                 (subst (λ (us : List Run). covering_of us (c ∷ ahead next)) mine.1 (subst (λ (vs : List Run). covering_of (ahead s) vs) y w))),
             λ w v m. ap (λ (us : List Run). inside us v) y ∙ or_right _ (inside (ahead next) v) (w v m),
           )
-
--- the same question, of runs told in other words
-pub within_by : (xs ys us vs : List Run) → us ≡ xs → vs ≡ ys → Within (inside xs) (inside ys) ↔ Within (inside us) (inside vs)
-within_by xs ys us vs e f = (
-  λ w v m. ap (λ (ws : List Run). inside ws v) f ∙ w v (sym (ap (λ (ws : List Run). inside ws v) e) ∙ m),
-  λ w v m. sym (ap (λ (ws : List Run). inside ws v) f) ∙ w v (ap (λ (ws : List Run). inside ws v) e ∙ m),
-)

@@ -8,11 +8,12 @@ use crate::MOST_RUNS;
 use sets::{Run, SetRefusal};
 
 /// What stands in a place that holds no run.
+// Bounds of no run, and no `Option`: a row lies in the host's tables, as eight pairs of numbers.
 pub(crate) const BLANK: Run = Run { low: 1, high: 0 };
 
 /// The runs found so far, ascending with gaps, and how many they are.
-// An array and a count, and no `Vec`: nothing here may take memory, and the array is the row that is
-// handed out.
+// An array and a count: no memory is taken, and the array is the row that is handed out, blanks and
+// all. A vector of fixed capacity would be copied into one at the end.
 #[derive(Clone, Copy)]
 pub(crate) struct Draft {
     pub(crate) runs: [Run; MOST_RUNS],

@@ -36,17 +36,8 @@ pub struct Amounts {
 }
 
 impl Amounts {
-    // The set of no run.
-    fn of_none() -> Amounts
-        ensures members { members_of result ≡ nothing }
-        ensures tidy { IsTidy result }
-    {
-        Amounts {
-            runs: [BLANK; MOST_RUNS],
-        }
-    }
-
     // The set of one run.
+    #[tactic(auto, using(crate::proofs::Singles::single_run))]
     fn of_run(run: Run) -> Amounts
         requires ordered { run.low ≤ run.high }
         requires below { run.high < amounts_top }
@@ -78,15 +69,19 @@ impl ValueSet for Amounts {
 
     ghost runs_held = { λ low high p q. run_held amounts_top 7 low high p q };
 
+    #[tactic(auto, using(crate::proofs::Singles::no_run))]
     fn empty() -> Amounts {
-        Amounts::of_none()
+        Amounts {
+            runs: [BLANK; MOST_RUNS],
+        }
     }
 
     fn run(low: u32, high: u32, place: &mut Amounts) -> Result<(), SetRefusal> {
-        if low > high || high >= TOP {
+        let run = Run { low, high };
+        if !run.is_below(TOP) {
             return Err(SetRefusal::NotARun);
         }
-        *place = Amounts::of_run(Run { low, high });
+        *place = Amounts::of_run(run);
         Ok(())
     }
 

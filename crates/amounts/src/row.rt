@@ -25,6 +25,7 @@ pub(crate) struct Runs<'a> {
 
 impl<'a> Runs<'a> {
     /// All runs of the row that count.
+    #[tactic(auto, using(crate::specs::RowsLemmas::places_all))]
     pub(crate) fn of(row: &'a [Run; MOST_RUNS], top: u32) -> Runs<'a>
         ensures ahead { ahead result ≡ counted top 0 (places most_runs row.now) }
         ensures top { result.top ≡ top }
@@ -36,7 +37,7 @@ impl<'a> Runs<'a> {
         }
     }
 
-    /// The run that comes next.
+    /// The run that comes next; it is not taken.
     pub(crate) fn peek(&self) -> Option<Run>
         ensures first { result ≡ slice_get (ahead self.now) 0 }
     {
@@ -84,8 +85,9 @@ fn reaches(run: Run, from: u32) -> bool
     from <= run.high
 }
 
-// The questions take a row and its top, and no struct of the two: a call that made one would hide from
-// the proofs what it holds, so each call would write both down again.
+// The questions take a row and its top (tried: the `Runs` of a set, handed out by a method of `Amounts`
+// that says what they mean). The calls of the kind, which follow from these contracts as they stand,
+// would then need answers of their own, and a wrong call would fail there and not for the fact.
 
 /// What the first run that ends at `from` or above tells of the values from there on.
 pub(crate) fn seek(row: &[Run; MOST_RUNS], top: u32, from: u32) -> Option<Run>

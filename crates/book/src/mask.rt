@@ -4,11 +4,14 @@ ghost use Rattle.std.specs.Prelude.{◌≡◌, ◌<◌};
 ghost use Rattle.sets.specs.Sets.{joined, single};
 ghost use Rattle.sets.specs.Word.{bit};
 
-/// Whether the mask holds the field; it holds none from 32 on.
+use sets::ValueSet;
+use sets::codes::Codes;
+
+/// Whether the mask holds the field, as a set of codes; it holds none from 32 on.
 pub fn has_field(mask: u32, field: usize) -> bool
     ensures value { result ≡ bit mask field }
 {
-    field < 32 && (mask >> field) % 2 == 1
+    u32::try_from(field).is_ok_and(|field| Codes(u64::from(mask)).contains(field))
 }
 
 // The mask with the field besides.

@@ -8,10 +8,26 @@ use sets::codes::Codes;
 use sets::{EMPTY_ANSWER, ValueSet, run_of};
 use std::fmt;
 
-const NAMES: [&str; 3] = ["years", "role", "wage"];
+#[derive(Clone, Copy)]
+struct Field {
+    name: &'static str,
+    weight: u8,
+}
 
-// Beside the names, since a book takes its weights as a table of numbers.
-const WEIGHTS: [u8; 3] = [3, 1, 2];
+const FIELDS: [Field; 3] = [
+    Field {
+        name: "years",
+        weight: 3,
+    },
+    Field {
+        name: "role",
+        weight: 1,
+    },
+    Field {
+        name: "wage",
+        weight: 2,
+    },
+];
 
 const SHEETS: [[u32; 3]; 6] = [
     [1, 1, 2],
@@ -76,14 +92,22 @@ impl Findings {
             failed: book.failed_edits(values)?,
         })
     }
+
+    fn is_empty(&self) -> bool {
+        self.outside == 0 && !self.failed.contains(&true)
+    }
 }
 
 impl fmt::Display for Findings {
     // Parted by semicolons; of a sheet with none, that it is sound.
     fn fmt<W: fmt::Write>(&self, f: &mut fmt::Formatter<W>) -> fmt::Result {
+        if self.is_empty() {
+            return f.write_str("sound");
+        }
         let mut separator = "";
-        for (field, name) in NAMES.iter().enumerate() {
-            if has_field(self.outside, field) {
+        for (i, field) in FIELDS.iter().enumerate() {
+            if has_field(self.outside, i) {
+                let name = field.name;
                 write!(f, "{separator}{name} is outside its domain")?;
                 separator = "; ";
             }
@@ -93,9 +117,6 @@ impl fmt::Display for Findings {
                 write!(f, "{separator}fails edit {number}")?;
                 separator = "; ";
             }
-        }
-        if separator.is_empty() {
-            f.write_str("sound")?;
         }
         Ok(())
     }
@@ -107,7 +128,7 @@ fn main(rt: HostRuntime) -> anyhow::Result<()> {
         n: 3,
         m: 2,
         sets: &sets,
-        weights: &WEIGHTS,
+        weights: &FIELDS.map(|field| field.weight),
     };
     for (number, values) in (1..=SHEETS.len()).zip(&SHEETS) {
         let sheet = Sheet(values);

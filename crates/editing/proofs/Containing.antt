@@ -2,13 +2,10 @@
 use Rattle.std.proofs.Common.{subst, inl, inr}
 use mathlib.Core.List.Memᴰ
 use Rattle.editing.specs.Edits.{Edit, Fails}
-use Rattle.editing.specs.Theorems.{ContainsIsAnOrder, LargerFailsToo, ContainedAddsNothing}
+use Rattle.editing.specs.Theorems.{LargerFailsToo, ContainedAddsNothing}
 use Rattle.editing.proofs.Sets.{member}
 
-pub contains_is_an_order : ContainsIsAnOrder
-contains_is_an_order n = (λ e i h v m. m, λ e f g c d i h v m. c i h v (d i h v m))
-
-pub larger_fails_too : LargerFailsToo
+larger_fails_too : LargerFailsToo
 larger_fails_too n D e f x inside contains fails i h enters =
     contains i h (x i) (member D f i (x i) (inside i h) (fails i h))
 

@@ -7,9 +7,6 @@ use Rattle.sets.specs.Sets.{Values, ◌∈◌, nothing, joined, single}
 use Rattle.editing.specs.Edits.{Edit, Record, Inside, outside}
 
 module _ (D : Edit) (x : Record) where
-  pub outside_none : outside 0 D x ≡ nothing
-  outside_none = fun_ext (λ v. grind (arith, nat_tests))
-
   -- the next field is added where its value is not in its domain
   pub outside_more : (i : ℕ) (b : Bool) → D i (x i) ≡ b → (v : ℕ) → outside (i + 1) D x v ≡ (outside i D x v || (eqb v i && not b))
   outside_more i b h v = at (cases_eq v i)

@@ -1,11 +1,11 @@
 -- Tables and slices, read as edits and records.
-use Rattle.std.proofs.Common.{◌≡◌, ℕ, zero, suc, ◌+◌, ◌*◌, ◌<◌, ◌≤◌, ltb, List, [], ◌∷◌, length, get_or, sym, ap, ◌∙◌, inl, inr, zero-mul, arith}
+use Rattle.std.proofs.Common.{◌≡◌, ℕ, zero, suc, ◌+◌, ◌*◌, ◌<◌, ◌≤◌, ltb, List, [], ◌∷◌, length, get_or, sym, ap, ◌∙◌, inl, inr, arith}
 use mathlib.Core.List.Memᴰ
 use native.Mathlib.Decide.{ℕ_discrete}
 use Rattle.std.proofs.lemmas.Bool.{cond-true, lt-ltb}
 use Rattle.sets.specs.Sets.{Values, nothing}
 use Rattle.editing.specs.Edits.{Edit, ◌among◌}
-use Rattle.editing.specs.Tables.{tests, at, row, rows, domains}
+use Rattle.editing.specs.Tables.{tests, at, row, rows}
 
 -- the test at a place is that of the set which was read there
 pub test_at : {K : Type 0} (has : K → Values) (sets : List K) (q : ℕ) (s : K) → q < length sets → s ≡ get_or sets q s → at (tests has sets) q ≡ has s
@@ -22,14 +22,6 @@ pub read_row :
     {K : Type 0} (has : K → Values) (sets : List K) (n j i : ℕ) (s : K) → i < n → j * n + i < length sets
     → s ≡ get_or sets (j * n + i) s → row n (tests has sets) j i ≡ has s
 read_row has sets n j i s h k e = row_at n (tests has sets) j i h ∙ test_at has sets (j * n + i) s k e
-
--- and a domain the one in the first row
-pub read_domain :
-    {K : Type 0} (has : K → Values) (sets : List K) (n i : ℕ) (s : K) → i < n → i < length sets → s ≡ get_or sets i s
-    → domains n (tests has sets) i ≡ has s
-read_domain has sets n i s h k e =
-    let z : i ≡ 0 * n + i = omega (arith, zero-mul n) in
-    read_row has sets n 0 i s h (omega arith) (e ∙ ap (λ (q : ℕ). get_or sets q s) z)
 
 module _ (edit : ℕ → Edit) where
   -- each row that is read stands in the list

@@ -55,6 +55,9 @@ word_none = fun_ext (λ v. no_member 0 v (bit_at-zero v))
 pub decides_same : (a b : ℕ) → a < 2 ^ 64 → b < 2 ^ 64 → IsTrue (a == b) ↔ (bit a ≡ bit b)
 decides_same a b p q = (λ e. ap bit (eqb-true a b e), λ h. eq-eqb a b (same_words a b p q h))
 
+pub decides_none : (a : ℕ) → a < 2 ^ 64 → IsTrue (a == 0) ↔ (bit a ≡ nothing)
+decides_none a p = let same = decides_same a 0 p (pow_pos 64) in rw (sym word_none) same
+
 within_met : (x y : Bool) → (x ≡ true → y ≡ true) → (x && y) ≡ x
 within_met true y h = h refl
 within_met false y h = refl

@@ -4,7 +4,7 @@ ghost use Rattle.std.specs.Prelude.{true};
 ghost use Rattle.sets.specs.Word.{bit, OneWordEach};
 ghost use Rattle.std.proofs.Common.{rules};
 
-use crate::{SetRefusal, Stepping, ValueSet, word};
+use crate::{Run, SetRefusal, Stepping, ValueSet, word};
 
 /// A set of codes. The code v is a member where bit v is set, so every word is a set, and every set
 /// below 64 has just one word. Eight bytes; each call is a few word operations.
@@ -33,10 +33,11 @@ impl ValueSet for Codes {
     }
 
     fn run(low: u32, high: u32, place: &mut Codes) -> Result<(), SetRefusal> {
-        if low > high || high >= 64 {
+        let run = Run { low, high };
+        if !run.is_below(64) {
             return Err(SetRefusal::NotARun);
         }
-        *place = Codes(word::run(low, high));
+        *place = Codes(word::run(run));
         Ok(())
     }
 
@@ -91,7 +92,7 @@ pub fn each_set_has_one_word()
 #[cfg(test)]
 mod tests {
     use super::*;
-    use crate::{Run, next_run, run_of};
+    use crate::{next_run, run_of};
     use std::test::Fail;
 
     #[test]

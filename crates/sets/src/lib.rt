@@ -35,6 +35,15 @@ pub struct Run {
     pub high: u32,
 }
 
+impl Run {
+    /// Whether the bounds are those of a run, and all its values lie below the top.
+    pub fn is_below(self, top: u32) -> bool
+        ensures decides { IsTrue result ↔ ((self.low ≤ self.high) × (self.high < top)) }
+    {
+        self.low <= self.high && self.high < top
+    }
+}
+
 /// A kind of finite sets of 32-bit values below a top.
 ///
 /// Sets lie in the host's tables, so whatever a value of the type holds is a set of the kind, and
@@ -59,6 +68,7 @@ pub trait ValueSet: Copy {
         ensures tidy { tidy result };
 
     /// Puts the values from `low` to `high` into the place.
+    // Two bounds and no `Run`: callers have the bounds in hand, and they may be those of no run.
     fn run(low: u32, high: u32, place: &mut Self) -> Result<(), SetRefusal>
         ensures placed { RunPlaced has top low high place.old place.new result }
         ensures tidy { OnOk result (tidy place.new) };
@@ -72,8 +82,8 @@ pub trait ValueSet: Copy {
         ensures decides { IsTrue result ↔ (has self.now ≡ nothing) };
 
     /// Whether both have the same members.
-    // No `PartialEq` (tried): a law that `==` goes by the members is owed for every record, also for
-    // words past 64 bits, which no value is; a derived `==` tells some of those apart.
+    // No `PartialEq`: a derived `==` tells apart rows that have the same members and other leftovers,
+    // and one by hand, with its laws, is no plainer than this.
     fn equals(&self, other: &Self) -> bool
         ensures decides { IsTrue result ↔ (has self.now ≡ has other.now) };
 

@@ -1,11 +1,8 @@
 use Rattle.std.proofs.Common.{sym, refl, ◌∙◌, rules}
 use Rattle.std.proofs.lemmas.Bool.{false≢true}
 use Rattle.amounts.specs.Walks.{ahead}
-use Rattle.amounts.proofs.Walks.{within_by, none_covers, none_left, cannot_cover, pass_mine, pass_theirs}
+use Rattle.amounts.proofs.Walks.{none_covers, none_left, cannot_cover, pass_mine, pass_theirs}
 use Rattle.amounts.proofs.row.within.Goals as goal
-
-pub loop-run-init : goal.loop-run-init
-loop-run-init c = within_by _ _ _ _ c.of-mine.ensures.ahead c.of-theirs.ensures.ahead
 
 pub returns-in_default-peek : goal.returns-in_default-peek
 returns-in_default-peek c =

@@ -3,8 +3,8 @@ use denote.Text.{Utf8}
 use denote.Shadow.{shadow}
 use Rattle.edit.proofs.FindingsDisplay.fmt.Given as goal
 
-abbrev pub invariant-loop-field : goal.invariant-loop-field
-invariant-loop-field g l = shadow (Utf8 l.separator)
+abbrev pub invariant-loop-i : goal.invariant-loop-i
+invariant-loop-i g l = shadow (Utf8 l.separator)
 
 abbrev pub invariant-loop-number : goal.invariant-loop-number
 invariant-loop-number g l =
