@@ -137,6 +137,8 @@ fn gathered<P: Pieces>(pieces: P) -> Result<[Run; MOST_RUNS], SetRefusal>
     Ok(draft.runs)
 }
 
+// As the questions on rows, both take rows and their top, for the reason given there.
+
 /// The row of the common members.
 pub(crate) fn met(
     row: &[Run; MOST_RUNS],
