@@ -85,9 +85,9 @@ fn reaches(run: Run, from: u32) -> bool
     from <= run.high
 }
 
-// The questions take a row and its top (tried: the `Runs` of a set, handed out by a method of `Amounts`
-// that says what they mean). The calls of the kind, which follow from these contracts as they stand,
-// would then need answers of their own, and a wrong call would fail there and not for the fact.
+// The questions take a row and its top. Tried: the `Runs` of a set, handed out by a method of `Amounts`
+// that says what they mean. That is no plainer: the calls of the kind follow from these contracts as
+// they stand, and would each need an answer of its own.
 
 /// What the first run that ends at `from` or above tells of the values from there on.
 pub(crate) fn seek(row: &[Run; MOST_RUNS], top: u32, from: u32) -> Option<Run>

@@ -68,7 +68,7 @@ pub trait ValueSet: Copy {
         ensures tidy { tidy result };
 
     /// Puts the values from `low` to `high` into the place.
-    // Two bounds and no `Run`: callers have the bounds in hand, and they may be those of no run.
+    // Two bounds and no `Run`: callers have bounds in hand, and would write `Run { low, high }` around them.
     fn run(low: u32, high: u32, place: &mut Self) -> Result<(), SetRefusal>
         ensures placed { RunPlaced has top low high place.old place.new result }
         ensures tidy { OnOk result (tidy place.new) };
@@ -127,6 +127,7 @@ pub trait Stepping: ValueSet {
 }
 
 /// The set of the values from `low` to `high`, where the caller has no place of its own to lend.
+// Two bounds and no `Run`, as in `ValueSet::run`.
 pub fn run_of<K: ValueSet>(low: u32, high: u32) -> Result<K, SetRefusal>
     ensures made { RunMade K.has K.top low high result }
     ensures tidy { IfOk result K.tidy }
