@@ -85,9 +85,9 @@ fn reaches(run: Run, from: u32) -> bool
     from <= run.high
 }
 
-// The questions take a row and its top. Tried: the `Runs` of a set, handed out by a method of `Amounts`
-// that says what they mean. That is no plainer: the calls of the kind follow from these contracts as
-// they stand, and would each need an answer of its own.
+// The questions take a row and its top. Tried: the `Runs` of a set, handed out by a method of
+// `Amounts` that says what they mean. That is no plainer: the calls of the kind follow from these
+// contracts as they stand, and would each need an answer of its own.
 
 /// What the first run that ends at `from` or above tells of the values from there on.
 pub(crate) fn seek(row: &[Run; MOST_RUNS], top: u32, from: u32) -> Option<Run>

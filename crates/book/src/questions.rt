@@ -26,7 +26,8 @@ impl<K: ValueSet> Book<'_, K> {
     // An array and no list: the users' format has 255 flags, and no call takes memory.
     pub fn failed_edits(&self, values: &[u32]) -> Result<[bool; MOST_EDITS], Refusal>
         ensures answer { let failed = FailsEdit K.has self.now values.now in
-            Answered self.now values.now (λ flags. Flagged most_edits self.now.m failed flags) result }
+            Answered self.now values.now
+            (λ flags. Flagged most_edits self.now.m failed flags) result }
     {
         Ok(self.record(values)?.failed_flags())
     }

@@ -45,7 +45,8 @@ impl<K: ValueSet> Record<'_, K> {
     // The flag at a place: up where there is an edit of the next number, and the record fails it.
     fn flag(&self, place: usize) -> bool
         ensures decides { let book = self.now.book.now in
-            IsTrue result ↔ ((place < book.m) × FailsEdit K.has book self.now.values.now (place + 1)) }
+            IsTrue result ↔
+            ((place < book.m) × FailsEdit K.has book self.now.values.now (place + 1)) }
     {
         place < self.book.m && self.fails(place + 1)
     }
@@ -59,7 +60,8 @@ impl<K: ValueSet> Record<'_, K> {
 
     // Whether each value is in its domain.
     fn is_inside(&self) -> bool
-        ensures decides { IsTrue result ↔ InsideDomains K.has self.now.book.now self.now.values.now }
+        ensures decides { IsTrue result ↔
+            InsideDomains K.has self.now.book.now self.now.values.now }
     {
         self.outside_mask() == 0
     }
@@ -74,7 +76,8 @@ impl<K: ValueSet> Record<'_, K> {
     // Whether the record fails the edit with this number.
     fn fails(&self, number: usize) -> bool
         requires number { number ≤ self.now.book.now.m }
-        ensures decides { IsTrue result ↔ FailsEdit K.has self.now.book.now self.now.values.now number }
+        ensures decides { IsTrue result ↔
+            FailsEdit K.has self.now.book.now self.now.values.now number }
     {
         self.row(number)
             .iter()

@@ -68,7 +68,8 @@ pub trait ValueSet: Copy {
         ensures tidy { tidy result };
 
     /// Puts the values from `low` to `high` into the place.
-    // Two bounds and no `Run`: callers have bounds in hand, and would write `Run { low, high }` around them.
+    // Two bounds and no `Run`: callers have bounds in hand, and would write `Run { low, high }`
+    // around them.
     fn run(low: u32, high: u32, place: &mut Self) -> Result<(), SetRefusal>
         ensures placed { RunPlaced has top low high place.old place.new result }
         ensures tidy { OnOk result (tidy place.new) };
@@ -82,8 +83,8 @@ pub trait ValueSet: Copy {
         ensures decides { IsTrue result ↔ (has self.now ≡ nothing) };
 
     /// Whether both have the same members.
-    // No `PartialEq`: a derived `==` tells apart rows that have the same members and other leftovers,
-    // and one by hand, with its laws, is no plainer than this.
+    // No `PartialEq`: a derived `==` tells apart rows that have the same members and other
+    // leftovers, and one by hand, with its laws, is no plainer than this.
     fn equals(&self, other: &Self) -> bool
         ensures decides { IsTrue result ↔ (has self.now ≡ has other.now) };
 
