@@ -15,7 +15,7 @@ use Rattle.amounts.specs.Pieces.{leading, overlap, Splits}
 use Rattle.amounts.specs.Runs.{not_true, same_run, or_assoc, between_true, inside_bounds}
 use Rattle.std.specs.Iterator.{YieldsFirst}
 use Rattle.std.specs.Bool.{then_some}
-use Rattle.amounts.specs.declared.row.Runs.{Runs}
+use Rattle.amounts.specs.declared.peeked.Peeked.{Peeked}
 use Rattle.amounts.specs.declared.combine.Either.{Either}
 use Rattle.amounts.specs.declared.combine.Both.{Both}
 use Rattle.amounts.proofs.Walks.{first_of, none_of, rising}
@@ -80,14 +80,14 @@ module _ (top also : ℕ) (xs ys : List Run) (a : Ascending top 0 xs) (b : Ascen
       late [] a r l = tt
       late (x ∷ xs) a r l = (grind (arith, nat_tests), a.1, a.2, a.3)
 
-module _ (s : Either) (o : Option Run) (next : Runs) where
-  pub mine_first : leading (slice_get (ahead s.theirs) 0) (slice_get (ahead s.mine) 0) ≡ false → YieldsFirst ahead s.mine o next
+module _ (s : Either) (o : Option Run) (next : Peeked) where
+  pub mine_first : leading (slice_get (ahead s.theirs.runs) 0) (slice_get (ahead s.mine.runs) 0) ≡ false → YieldsFirst (λ (p : Peeked). ahead p.runs) s.mine o next
       → Splits (either_left s) o (either_left (record { mine = next; theirs = s.theirs }))
-  mine_first l step = mine_goes s.mine.top s.theirs.top (ahead s.mine) (ahead s.theirs) (rising s.mine) (rising s.theirs) l o (ahead next) step
+  mine_first l step = mine_goes s.mine.runs.top s.theirs.runs.top (ahead s.mine.runs) (ahead s.theirs.runs) (rising s.mine.runs) (rising s.theirs.runs) l o (ahead next.runs) step
 
-  pub theirs_first : leading (slice_get (ahead s.theirs) 0) (slice_get (ahead s.mine) 0) ≡ true → YieldsFirst ahead s.theirs o next
+  pub theirs_first : leading (slice_get (ahead s.theirs.runs) 0) (slice_get (ahead s.mine.runs) 0) ≡ true → YieldsFirst (λ (p : Peeked). ahead p.runs) s.theirs o next
       → Splits (either_left s) o (either_left (record { mine = s.mine; theirs = next }))
-  theirs_first l step = theirs_goes s.mine.top s.theirs.top (ahead s.mine) (ahead s.theirs) (rising s.mine) (rising s.theirs) l o (ahead next) step
+  theirs_first l step = theirs_goes s.mine.runs.top s.theirs.runs.top (ahead s.mine.runs) (ahead s.theirs.runs) (rising s.mine.runs) (rising s.theirs.runs) l o (ahead next.runs) step
 
 -- ---- common members
 
@@ -168,8 +168,8 @@ common_swap : (a b : Run) → common a b ≡ common b a
 common_swap a b = same_run (common a b) (common b a) (omega arith) (omega arith)
 
 -- one turn, from rows that begin with a and b: the row whose run ends first goes on
-module _ (s t : Both) (a b : Run) (e : slice_get (ahead s.mine) 0 ≡ Some a) (f : slice_get (ahead s.theirs) 0 ≡ Some b)
-    (mine : a.high ≤ b.high → Takes a s.mine t.mine × Keeps s.theirs t.theirs) (theirs : b.high < a.high → Takes b s.theirs t.theirs × Keeps s.mine t.mine) where
+module _ (s t : Both) (a b : Run) (e : slice_get (ahead s.mine.runs) 0 ≡ Some a) (f : slice_get (ahead s.theirs.runs) 0 ≡ Some b)
+    (mine : a.high ≤ b.high → Takes a s.mine.runs t.mine.runs × Keeps s.theirs.runs t.theirs.runs) (theirs : b.high < a.high → Takes b s.theirs.runs t.theirs.runs × Keeps s.mine.runs t.mine.runs) where
   abbrev overlaps : Bool
   overlaps = nat_le (common a b).low (common a b).high
 
@@ -182,15 +182,15 @@ module _ (s t : Both) (a b : Run) (e : slice_get (ahead s.mine) 0 ≡ Some a) (f
       elim (cases_lt b.high a.high) [
         | inr h ↦
             let p = mine h in
-            subst (λ (ws : List Run). Splits (both_left s) (Some (common a b)) (met (inside (ahead t.mine)) (inside ws))) (sym p.1)
-            (found s.mine.top s.theirs.top a b _ _ (ahead t.mine) (rising s.mine) (rising s.theirs) p.0 f h c)
+            subst (λ (ws : List Run). Splits (both_left s) (Some (common a b)) (met (inside (ahead t.mine.runs)) (inside ws))) (sym p.1)
+            (found s.mine.runs.top s.theirs.runs.top a b _ _ (ahead t.mine.runs) (rising s.mine.runs) (rising s.theirs.runs) p.0 f h c)
         | inl h ↦
             let p = theirs h in
-            let other = found s.theirs.top s.mine.top b a _ _ (ahead t.theirs) (rising s.theirs) (rising s.mine) p.0 e (omega arith) (swapped true c) in
-            subst (λ (A : Values). Splits A (Some (common a b)) (both_left t)) (met_swap (inside (ahead s.theirs)) (inside (ahead s.mine)))
-            (subst (λ (B : Values). Splits (met (inside (ahead s.theirs)) (inside (ahead s.mine))) (Some (common a b)) B)
-            (met_swap (inside (ahead t.theirs)) (inside (ahead s.mine)) ∙ ap (λ (ws : List Run). met (inside ws) (inside (ahead t.theirs))) (sym p.1))
-            (subst (λ (r : Run). Splits (met (inside (ahead s.theirs)) (inside (ahead s.mine))) (Some r) (met (inside (ahead t.theirs)) (inside (ahead s.mine)))) (sym (common_swap a b)) other))
+            let other = found s.theirs.runs.top s.mine.runs.top b a _ _ (ahead t.theirs.runs) (rising s.theirs.runs) (rising s.mine.runs) p.0 e (omega arith) (swapped true c) in
+            subst (λ (A : Values). Splits A (Some (common a b)) (both_left t)) (met_swap (inside (ahead s.theirs.runs)) (inside (ahead s.mine.runs)))
+            (subst (λ (B : Values). Splits (met (inside (ahead s.theirs.runs)) (inside (ahead s.mine.runs))) (Some (common a b)) B)
+            (met_swap (inside (ahead t.theirs.runs)) (inside (ahead s.mine.runs)) ∙ ap (λ (ws : List Run). met (inside ws) (inside (ahead t.theirs.runs))) (sym p.1))
+            (subst (λ (r : Run). Splits (met (inside (ahead s.theirs.runs)) (inside (ahead s.mine.runs))) (Some r) (met (inside (ahead t.theirs.runs)) (inside (ahead s.mine.runs)))) (sym (common_swap a b)) other))
       ]
 
   skipped_here : overlaps ≡ false → both_left s ≡ both_left t
@@ -198,13 +198,13 @@ module _ (s t : Both) (a b : Run) (e : slice_get (ahead s.mine) 0 ≡ Some a) (f
       elim (cases_lt b.high a.high) [
         | inr h ↦
             let p = mine h in
-            skipped s.mine.top s.theirs.top a b _ _ (ahead t.mine) (rising s.mine) (rising s.theirs) p.0 f h c
-            ∙ ap (λ (ws : List Run). met (inside (ahead t.mine)) (inside ws)) (sym p.1)
+            skipped s.mine.runs.top s.theirs.runs.top a b _ _ (ahead t.mine.runs) (rising s.mine.runs) (rising s.theirs.runs) p.0 f h c
+            ∙ ap (λ (ws : List Run). met (inside (ahead t.mine.runs)) (inside ws)) (sym p.1)
         | inl h ↦
             let p = theirs h in
-            met_swap (inside (ahead s.mine)) (inside (ahead s.theirs))
-            ∙ skipped s.theirs.top s.mine.top b a _ _ (ahead t.theirs) (rising s.theirs) (rising s.mine) p.0 e (omega arith) (swapped false c)
-            ∙ met_swap (inside (ahead t.theirs)) (inside (ahead s.mine)) ∙ ap (λ (ws : List Run). met (inside ws) (inside (ahead t.theirs))) (sym p.1)
+            met_swap (inside (ahead s.mine.runs)) (inside (ahead s.theirs.runs))
+            ∙ skipped s.theirs.runs.top s.mine.runs.top b a _ _ (ahead t.theirs.runs) (rising s.theirs.runs) (rising s.mine.runs) p.0 e (omega arith) (swapped false c)
+            ∙ met_swap (inside (ahead t.theirs.runs)) (inside (ahead s.mine.runs)) ∙ ap (λ (ws : List Run). met (inside ws) (inside (ahead t.theirs.runs))) (sym p.1)
       ]
 
   pub turn_found : (r : Run) → overlap a b ≡ Some r → Splits (both_left s) (Some r) (both_left t)

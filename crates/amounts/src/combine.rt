@@ -12,7 +12,7 @@ ghost use Rattle.sets.specs.declared.Run.{Run};
 
 use crate::MOST_RUNS;
 use crate::draft::Draft;
-use crate::row::Runs;
+use crate::peeked::Peeked;
 use sets::{Run, SetRefusal};
 
 /// Runs that come by ascending start, and may overlap or touch.
@@ -27,8 +27,8 @@ pub(crate) trait Pieces: Iterator<Item = Run> {
 /// The runs of two rows, the one that begins first next.
 #[derive(Clone, Copy)]
 pub(crate) struct Either<'a> {
-    pub(crate) mine: Runs<'a>,
-    pub(crate) theirs: Runs<'a>,
+    pub(crate) mine: Peeked<'a>,
+    pub(crate) theirs: Peeked<'a>,
 }
 
 impl Iterator for Either<'_> {
@@ -56,20 +56,22 @@ impl Pieces for Either<'_> {
 /// What the runs of two rows have in common.
 #[derive(Clone, Copy)]
 pub(crate) struct Both<'a> {
-    pub(crate) mine: Runs<'a>,
-    pub(crate) theirs: Runs<'a>,
+    pub(crate) mine: Peeked<'a>,
+    pub(crate) theirs: Peeked<'a>,
 }
 
 impl Both<'_> {
     // Goes on in the row whose first run ends first: what follows the other's first run has nothing
     // in common with it.
     fn pass(&mut self, a: Run, b: Run)
-        requires mine { slice_get (ahead self.old.mine) 0 ≡ Some a }
-        requires theirs { slice_get (ahead self.old.theirs) 0 ≡ Some b }
+        requires mine { slice_get (ahead self.old.mine.runs) 0 ≡ Some a }
+        requires theirs { slice_get (ahead self.old.theirs.runs) 0 ≡ Some b }
         ensures mine { a.high ≤ b.high →
-            Takes a self.old.mine self.new.mine × Keeps self.old.theirs self.new.theirs }
+            Takes a self.old.mine.runs self.new.mine.runs
+            × Keeps self.old.theirs.runs self.new.theirs.runs }
         ensures theirs { b.high < a.high →
-            Takes b self.old.theirs self.new.theirs × Keeps self.old.mine self.new.mine }
+            Takes b self.old.theirs.runs self.new.theirs.runs
+            × Keeps self.old.mine.runs self.new.mine.runs }
     {
         if a.high <= b.high {
             self.mine.next();
@@ -150,8 +152,8 @@ pub(crate) fn met(
         Made top most_runs (both mine theirs) result }
 {
     gathered(Both {
-        mine: Runs::of(row, top),
-        theirs: Runs::of(other, top),
+        mine: Peeked::of(row, top),
+        theirs: Peeked::of(other, top),
     })
 }
 
@@ -166,7 +168,7 @@ pub(crate) fn joined(
         Made top most_runs (either mine theirs) result }
 {
     gathered(Either {
-        mine: Runs::of(row, top),
-        theirs: Runs::of(other, top),
+        mine: Peeked::of(row, top),
+        theirs: Peeked::of(other, top),
     })
 }

@@ -15,6 +15,7 @@ use sets::{Run, SetRefusal, Stepping, ValueSet};
 
 mod combine;
 mod draft;
+mod peeked;
 mod row;
 
 /// How many runs a set has at most.

@@ -3,21 +3,22 @@
 //! A row may hold anything. It means its runs up to the first that is no run below the top, or that
 //! leaves no gap above the one before it.
 
-ghost use Rattle.std.specs.Prelude.{◌≡◌, ◌+◌, min, ◌↔◌, IsTrue, nat_le, slice_get};
+ghost use Rattle.std.specs.Prelude.{◌≡◌, ◌+◌, min, ◌↔◌, IsTrue, nat_le, Some, slice_get};
 ghost use Rattle.std.specs.Iterator.{item_count, YieldsFirst};
 ghost use Rattle.amounts.specs.Limits.{most_runs};
 ghost use Rattle.amounts.specs.Rows.{counted, places, stands as standing};
-ghost use Rattle.amounts.specs.Walks.{ahead, covering, Sought, values};
+ghost use Rattle.amounts.specs.Walks.{ahead, covering, Keeps, Sought, Takes, values};
 ghost use Rattle.sets.specs.Sets.{nothing, Within};
 
 use crate::MOST_RUNS;
+use crate::peeked::Peeked;
 use sets::Run;
 
 /// The runs of a row that count, from some place on, in ascending order. Each next one is found by
 /// a look at one place.
 #[derive(Clone, Copy)]
 pub(crate) struct Runs<'a> {
-    places: &'a [Run],
+    pub(crate) places: &'a [Run],
     // where the next run may begin at the lowest
     least: u32,
     top: u32,
@@ -43,6 +44,28 @@ impl<'a> Runs<'a> {
     {
         let mut runs = *self;
         runs.next()
+    }
+
+    /// Goes past the run that comes next, which was looked at before.
+    pub(crate) fn pass(&mut self, run: Run)
+        requires first { slice_get (ahead self.old) 0 ≡ Some run }
+        ensures taken { Takes run self.old self.new }
+    {
+        *self = Runs {
+            places: &self.places[1..],
+            least: past_gap(run),
+            top: self.top,
+        };
+    }
+
+    /// Leaves out all places where no run comes next.
+    pub(crate) fn settle(&mut self)
+        ensures same { Keeps self.old self.new }
+        ensures settled { slice_get self.new.places.now 0 ≡ slice_get (ahead self.new) 0 }
+    {
+        if self.peek().is_none() {
+            self.places = &self.places[..0];
+        }
     }
 }
 
@@ -116,8 +139,8 @@ pub(crate) fn within(row: &[Run; MOST_RUNS], other: &[Run; MOST_RUNS], top: u32)
     ensures decides { IsTrue result ↔
         Within (values top most_runs row.now) (values top most_runs other.now) }
 {
-    let mut mine = Runs::of(row, top);
-    let mut theirs = Runs::of(other, top);
+    let mut mine = Peeked::of(row, top);
+    let mut theirs = Peeked::of(other, top);
     // each turn takes from one of the two, so no chain of one iterator serves
     while let Some(run) = mine.peek() {
         let Some(cover) = theirs.peek() else {

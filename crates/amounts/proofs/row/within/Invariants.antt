@@ -7,7 +7,7 @@ use Rattle.amounts.proofs.row.within.Given as goal
 
 abbrev pub invariant-loop-run : goal.invariant-loop-run
 invariant-loop-run l =
-    Within (values l.top most_runs l.row) (values l.top most_runs l.other) ↔ Within (inside (ahead l.mine)) (inside (ahead l.theirs))
+    Within (values l.top most_runs l.row) (values l.top most_runs l.other) ↔ Within (inside (ahead l.mine.runs)) (inside (ahead l.theirs.runs))
 
 abbrev pub decreases-loop-run : goal.decreases-loop-run
-decreases-loop-run l = length (ahead l.mine) + length (ahead l.theirs)
+decreases-loop-run l = length (ahead l.mine.runs) + length (ahead l.theirs.runs)

@@ -25,8 +25,8 @@ loop-a-preserved c =
 
 pub returns-in_default-clause-steps : goal.returns-in_default-clause-steps
 returns-in_default-clause-steps c =
-    c.loop-a.invariant.0 ∙ none_common (ahead c.loop-a.self.mine) (ahead c.loop-a.self.theirs) (inr (sym c.peek-in-loop-a.ensures.first ∙ c.in_default.is-1))
+    c.loop-a.invariant.0 ∙ none_common (ahead c.loop-a.self.mine.runs) (ahead c.loop-a.self.theirs.runs) (inr (sym c.peek-in-loop-a.ensures.first ∙ c.in_default.is-1))
 
 pub returns-in_default-2-clause-steps : goal.returns-in_default-2-clause-steps
 returns-in_default-2-clause-steps c =
-    c.loop-a.invariant.0 ∙ none_common (ahead c.loop-a.self.mine) (ahead c.loop-a.self.theirs) (inl (sym c.peek.ensures.first ∙ c.in_default.is-0))
+    c.loop-a.invariant.0 ∙ none_common (ahead c.loop-a.self.mine.runs) (ahead c.loop-a.self.theirs.runs) (inl (sym c.peek.ensures.first ∙ c.in_default.is-0))
