@@ -9,7 +9,6 @@ ghost use Rattle.sets.specs.Word.{bit};
 use crate::mask::with_field;
 use crate::{Book, MOST_EDITS};
 use sets::ValueSet;
-use std::array;
 
 /// A record under a book: the book's measure is in order, and there is one value for each of its
 /// fields. So each question on it has an answer.
@@ -39,16 +38,13 @@ impl<K: ValueSet> Record<'_, K> {
         ensures flags { let book = self.now.book.now in
             Flagged most_edits book.m (FailsEdit K.has book self.now.values.now) result }
     {
-        array::from_fn(|place| self.flag(place))
-    }
-
-    // The flag at a place: up where there is an edit of the next number, and the record fails it.
-    fn flag(&self, place: usize) -> bool
-        ensures decides { let book = self.now.book.now in
-            IsTrue result ↔
-            ((place < book.m) × FailsEdit K.has book self.now.values.now (place + 1)) }
-    {
-        place < self.book.m && self.fails(place + 1)
+        let mut flags = [false; MOST_EDITS];
+        // A loop, and no `array::from_fn`, which makes a call for each of the 255 places, however few
+        // edits there are.
+        for place in 0..self.book.m {
+            flags[place] = self.fails(place + 1);
+        }
+        flags
     }
 
     // Whether the record is within the domains, and fails no edit.

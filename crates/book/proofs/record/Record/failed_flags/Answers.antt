@@ -1,13 +1,10 @@
-use Rattle.std.proofs.Common.{ℕ, rules, tests}
-use Rattle.book.specs.Books.{FailsEdit}
-use Rattle.book.proofs.Flags.{flags_called}
+use Rattle.std.proofs.Common.{arith}
+use Rattle.book.proofs.Flags.{flags_none, flags_more}
 use Rattle.book.proofs.record.Record.failed_flags.Goals as goal
 
-pub returns : goal.returns
-returns g c =
-    let self = c.args.self.now in
-    record {
-      flags =
-          flags_called _ _ c.from_fn.result 255 self.book.now.m (FailsEdit g.K.ValueSet.has self.book.now self.values.now) self.ready.book.sized.few_edits c.from_fn.ensures.items
-          (λ j y q k. let c : ℕ = 0 in search (rules, tests));
-    }
+pub loop-place-init : goal.loop-place-init
+loop-place-init g c = flags_none 255 _
+
+pub loop-place-preserved : goal.loop-place-preserved
+loop-place-preserved g c =
+    flags_more 255 _ _ _ _ (omega (arith, c.args.self.now.ready.book.sized.few_edits)) c.loop-place.invariant c.fails.ensures.decides
