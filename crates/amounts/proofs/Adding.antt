@@ -22,7 +22,7 @@ pub starts_filled : (top k : ℕ) (rs : List Run) → Filled top 0 k rs → star
 starts_filled top k rs f = starts_inside top 0 (counted top 0 rs) (ascends top 0 rs) top (omega arith) ∙ filled_counts top 0 k rs f
 
 -- nothing is left to come
-finished : (top most : ℕ) (A : Values) (d : Draft) → Drafts top most A d nothing → Made top most A (Ok d.runs)
+pub finished : (top most : ℕ) (A : Values) (d : Draft) → Drafts top most A d nothing → Made top most A (Ok d.runs)
 finished top most A d s =
     let same : A ≡ members top d.runs = s.whole ∙ fun_ext (λ v. or_nothing (members top d.runs v)) in (
       le-leb (starts top A) most (omega (arith, ap (starts top) same, starts_filled top d.count d.runs s.filled, filled_most top 0 d.count d.runs s.filled, s.long)),
@@ -30,7 +30,7 @@ finished top most A d s =
       record { count = d.count; filled = s.filled; long = s.long },
     )
 
-no_refusal : (why : SetRefusal) → ◌≡◌ {A = Result (Unit {0}) SetRefusal} (Ok tt) (Err why) → ⊥
+pub no_refusal : (why : SetRefusal) → ◌≡◌ {A = Result (Unit {0}) SetRefusal} (Ok tt) (Err why) → ⊥
 no_refusal why p = let z : ◌≡◌ {A = ℕ} 0 1 = cc in omega arith
 
 same_refusal : (why : SetRefusal) → ◌≡◌ {A = Result (Unit {0}) SetRefusal} (Err NotHeld) (Err why) → why ≡ NotHeld
@@ -117,7 +117,7 @@ module _ (top most : ℕ) (A : Values) (d : Draft) (r : Run) (here next : Values
           omega (arith, ap (starts top) s.whole, both, starts_filled top d.count d.runs s.filled, one)
 
   -- the run is in the draft, or there is no room for it
-  add_on : answered most d r ≡ Ok tt → Drafts top most A (added most d r) next
+  pub add_on : answered most d r ≡ Ok tt → Drafts top most A (added most d r) next
   add_on e =
       elim (cases_Bool (touches d r)) [
         | inl t ↦ subst (λ (x : Draft). Drafts top most A x next) (sym (ap (λ (b : Bool). cond b (widened d r) (cond (eqb d.count most) d (pushed d r))) t)) (add_widened t)
@@ -130,7 +130,7 @@ module _ (top most : ℕ) (A : Values) (d : Draft) (r : Run) (here next : Values
             ]
       ]
 
-  add_refused : (why : SetRefusal) → answered most d r ≡ Err why → (why ≡ NotHeld) × (few top most A ≡ false)
+  pub add_refused : (why : SetRefusal) → answered most d r ≡ Err why → (why ≡ NotHeld) × (few top most A ≡ false)
   add_refused why e =
       elim (cases_Bool (touches d r)) [
         | inl t ↦ absurd (no_refusal why (sym (ap (λ (b : Bool). cond b (Ok tt) (cond (eqb d.count most) (Err NotHeld) (Ok tt))) t) ∙ e))

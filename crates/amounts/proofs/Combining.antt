@@ -20,7 +20,7 @@ use Rattle.amounts.specs.declared.combine.Either.{Either}
 use Rattle.amounts.specs.declared.combine.Both.{Both}
 use Rattle.amounts.proofs.Walks.{first_of, none_of, rising}
 
-joined_swap : (A B : Values) → joined A B ≡ joined B A
+pub joined_swap : (A B : Values) → joined A B ≡ joined B A
 joined_swap A B = fun_ext (λ v. or_comm (A v) (B v))
   where
     or_comm : (a b : Bool) → (a || b) ≡ (b || a)

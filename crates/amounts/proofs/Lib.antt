@@ -1,6 +1,6 @@
 mod Same
-mod Walks
-mod Combining
+pub mod Walks
+pub mod Combining
 pub mod Drafts
 pub mod Drafting
 pub mod Adding

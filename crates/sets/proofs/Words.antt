@@ -28,7 +28,7 @@ past_member : (n v : ℕ) → 64 ≤ v → bit n v ≡ false
 past_member n v h = and_left (nat_lt v 64) (bit_at n v == 1) (le-ltb v 64 h)
 
 -- below 64 the test and the bit tell the same
-same_bit : (a b v : ℕ) → v < 64 → bit a v ≡ bit b v → bit_at a v ≡ bit_at b v
+pub same_bit : (a b v : ℕ) → v < 64 → bit a v ≡ bit b v → bit_at a v ≡ bit_at b v
 same_bit a b v l e = let p = bit_at-lt a v in let q = bit_at-lt b v in grind (arith, nat_tests)
 
 -- a set has one word
