@@ -1,9 +1,8 @@
 -- What a walk knows of the runs that are still to come.
-use Rattle.std.proofs.Common.{◌≡◌, ℕ, ◌+◌, ◌-◌, ◌^◌, ◌<◌, ◌≤◌, min, Bool, true, false, cond, not, ◌&&◌, ◌==◌, ◌⊎◌, List, [], ◌∷◌, length, is_some, MatchOption, find, Some, None, Option, ◌↔◌, IsTrue, slice_get, slice_range, take, nat_le, sym, refl, ap, ap₂, ◌∙◌, subst, inl, inr, arith}
+use Rattle.std.proofs.Common.{◌≡◌, ℕ, ◌+◌, ◌^◌, ◌<◌, ◌≤◌, min, Bool, true, false, cond, not, ◌&&◌, ◌==◌, ◌⊎◌, List, [], ◌∷◌, length, is_some, MatchOption, find, Some, None, Option, ◌↔◌, IsTrue, slice_get, nat_le, sym, refl, ap, ◌∙◌, subst, inl, inr, arith}
 use Rattle.std.specs.Iterator.{item_count, MakesProgress, YieldsFirst}
 use Rattle.std.proofs.lemmas.Bool.{both_ways, cases_Bool, cases_lt, and_parts, and_from, eqb-true, eq-eqb, or_cases, or_left, or_right, leb-true}
 use Rattle.std.proofs.lemmas.Bool.Decides.{nat_tests}
-use Rattle.std.proofs.lemmas.List.{take_all}
 use Rattle.sets.specs.declared.Run.{Run}
 use Rattle.sets.specs.Sets.{Values, ◌∈◌, nothing, between, Within}
 use Rattle.amounts.specs.Rows.{counted, inside, stands, Ascending}
@@ -85,22 +84,6 @@ none_of (x ∷ xs) e = absurd cc
 pub taken : (xs ys : List Run) (r : Run) (o : Option Run) → slice_get xs 0 ≡ Some r → MatchOption o ((xs ≡ []) × (ys ≡ [])) (λ x. xs ≡ (x ∷ ys)) → xs ≡ (r ∷ ys)
 taken xs ys r None e t = let f = first_of xs r e in absurd cc
 taken xs ys r (Some x) e t = let f = first_of xs r e in cc
-
--- past a run that was seen to come next
-pub seen_next : (top least next : ℕ) (r : Run) (places others : List Run) → slice_get (counted top least places) 0 ≡ Some r → others ≡ slice_range places 1 (length places)
-    → top < 2 ^ 32 → next ≡ min (r.high + 2) 4294967295 → counted top least places ≡ (r ∷ counted top next others)
-seen_next top least next r [] others e is fits cut = absurd cc
-seen_next top least next r (x ∷ xs) others e is fits cut =
-    let seen = first_of (counted top least (x ∷ xs)) r e in
-    let few : length (x ∷ xs) - 1 ≡ length xs = omega arith in
-    let left : others ≡ xs = is ∙ ap (λ (n : ℕ). take n xs) few ∙ take_all (length xs) xs (omega arith) in
-    elim (cases_Bool (stands top least x)) [
-      | inl s ↦
-          let on = counted_on top least x xs s in
-          let same : x ≡ r = cc in
-          comes_next top least r others (x ∷ xs) next (ap₂ (λ (y : Run) (ys : List Run). y ∷ ys) same (sym left)) fits (subst (λ (y : Run). stands top least y ≡ true) same s) cut
-      | inr n ↦ let off = counted_off top least x xs n in absurd cc
-    ]
 
 -- where nothing was seen, nothing is to come
 pub none_seen : (xs : List Run) (o : Option Run) → o ≡ slice_get xs 0 → (r : Bool) → is_some o ≡ not r → r ≡ true → [] ≡ xs
